@@ -1,0 +1,49 @@
+-- The run by its threads: what the machine does from a list of threads, the first in hand, and how the code's registers stand for that list.
+use mathlib.Core.Path.{_≡_}
+use mathlib.Core.Bool.{Bool, true, false}
+use mathlib.Core.List.{List, [], _∷_}
+use Prim.Native.Nat.{ℕ, suc, _+_, _-_, _≤_, _<_}
+use Rattle.machine.specs.declared.Limit.{Limit}
+use Rattle.machine.specs.declared.Ending.{Ending}
+use Rattle.machine.specs.declared.Ending.the-variants.{Complete, Enough, Stopped}
+use Rattle.machine.specs.declared.Tally.{Tally}
+use Rattle.machine.specs.Machine.{Thread, solving, Branch}
+use Rattle.machine.specs.Answers.{Line}
+use Rattle.machine.specs.Run.{Request, State, Outgoing, next, ended, goOn, Result, run}
+use Rattle.branch.specs.State.{Tops, IsBranch, Sound, Waiting}
+use Rattle.steps.specs.declared.Regs.{Regs}
+use Rattle.steps.specs.declared.Stepped.{Stepped}
+use Rattle.steps.specs.declared.Stepped.the-variants.{Onward, Answer, Finished}
+
+-- n units more from a list of threads
+unfoldable pub runOut : Request → ℕ → Outgoing → Result
+runOut q n (next s) = run q n s
+runOut q n (ended e y ls) = record { ending = e; tally = y; lines = ls }
+
+unfoldable pub runOn : Request → ℕ → Tally → List Line → List Thread → Result
+runOn q n y ls ts = runOut q n (goOn y ls ts)
+
+-- n units more on a tally
+unfoldable pub spentUnits : ℕ → Tally → Tally
+spentUnits n y = record { units = y .units + n; answers = y .answers; assumed = y .assumed }
+
+abbrev pub topsOf : Regs → Tops
+topsOf r = record { made = r .made; trail = r .trail; cells = r .cells; programs = r .programs; alternatives = r .alternatives }
+
+-- THE REPRESENTATION: the registers and the workspace stand for the threads. In the mode of going back there is no thread in hand.
+pub data Stands (book ws : List ℕ) (r : Regs) : List Thread → Type 0 where
+  in-hand : {b : Branch} {threads : List Thread} → r .solving ≡ true → Sound book ws (topsOf r)
+      → IsBranch book ws (topsOf r) (r .cell) (r .taken) (r .supposed) b → Waiting book ws (topsOf r) threads → Stands book ws r (solving b ∷ threads)
+  going-back : {threads : List Thread} → r .solving ≡ false → Sound book ws (topsOf r) → Waiting book ws (topsOf r) threads → Stands book ws r threads
+
+-- WHAT ONE STEP OF THE CODE GIVES, with `left` units of the budget: it goes on, with so many units; an answer is due on the branch in hand; or the run has ended.
+-- A step takes a goal, or goes back and, if the alternative is a clause, enters it and unifies.
+pub data StepGives (book ws ws′ : List ℕ) (left : ℕ) (threads : List Thread) : Stepped → Type 0 where
+  steps-on : {r : Regs} {used : ℕ} {threads′ : List Thread} → used ≤ left → Stands book ws′ r threads′
+      → ((q : Request) (y : Tally) (ls : List Line) → runOn q left y ls threads ≡ runOn q (left - used) (spentUnits used y) ls threads′)
+      → StepGives book ws ws′ left threads (Onward r used)
+  steps-answer : {b : Branch} {rest : List Thread} → threads ≡ solving b ∷ rest → b .goals ≡ [] → ws′ ≡ ws
+      → StepGives book ws ws′ left threads Answer
+  steps-end : {e : Ending} {used : ℕ} → used ≤ left
+      → ((q : Request) (y : Tally) (ls : List Line) → runOn q left y ls threads ≡ record { ending = e; tally = spentUnits used y; lines = ls })
+      → StepGives book ws ws′ left threads (Finished e used)

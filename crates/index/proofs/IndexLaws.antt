@@ -1,0 +1,182 @@
+-- Laws of the index.
+use mathlib.Core.Path.{_≡_, refl, sym, _∙_, ap}
+use mathlib.Core.Logic.{_⊎_, inl, inr}
+use mathlib.Core.Bool.{Bool, true, false, _&&_}
+use mathlib.Core.List.{List}
+use Prim.Native.Nat.{ℕ, zero, suc, _+_, _-_, _*_, _%_, _≤_, _<_}
+use native.Mathlib.Omega.{arith}
+use native.Mathlib.Decide.{decLt}
+use native.Mathlib.Nat.{add-zero}
+use borrow.Author.Tests.{eq-eqb, ne-eqb}
+use lib.Dec.{eqb}
+use lib.ListN.{length, getD, set, length-set}
+use lib.Seq.{getD-set-same, getD-set-other}
+use Rattle.book.specs.Records.{field}
+use Rattle.words.specs.Frame.{Keeps}
+use Rattle.words.proofs.StackLaws.{keeps-refl, keeps-trans, keeps-narrow, keeps-set}
+use Rattle.index.specs.Runs.{headMatches, nextMatch}
+use Rattle.index.specs.Index.{bucketOf, nextIn, Indexed, EmptyFrom, IndexedFrom, Skips}
+
+-- WHAT nextIn FINDS
+module _ (book : List ℕ) (first b : ℕ) where
+  pub in-bounds : (k j : ℕ) → (k ≤ nextIn book first b k j) × (nextIn book first b k j ≤ k + j)
+  unfolding nextIn
+  in-bounds k zero = (omega arith, omega arith)
+  in-bounds k (suc j) = go (eqb b (bucketOf book first k)) (in-bounds (suc k) j)
+    where
+      go : (t : Bool) → (suc k ≤ nextIn book first b (suc k) j) × (nextIn book first b (suc k) j ≤ suc k + j)
+          → (k ≤ elim t [ true ↦ k | false ↦ nextIn book first b (suc k) j ]) × (elim t [ true ↦ k | false ↦ nextIn book first b (suc k) j ] ≤ k + suc j)
+      go true ih = (omega arith, omega arith)
+      go false ih = (omega (arith, ih .0), omega (arith, ih .1))
+
+  -- one more clause in front, in another bucket or in this one
+  pub in-other : (k n : ℕ) → k < n → (b ≡ bucketOf book first k → ⊥) → nextIn book first b (k + 1) (n - (k + 1)) ≡ nextIn book first b k (n - k)
+  unfolding nextIn
+  in-other k n h e =
+      let z : n - k ≡ suc (n - (k + 1)) = omega arith in
+      let w : suc k ≡ k + 1 = omega arith in
+      rw (z, nextIn, ne-eqb b (bucketOf book first k) e, w) refl
+
+  pub in-this : (k n : ℕ) → k < n → b ≡ bucketOf book first k → k ≡ nextIn book first b k (n - k)
+  unfolding nextIn
+  in-this k n h e = let z : n - k ≡ suc (n - (k + 1)) = omega arith in rw (z, nextIn, eq-eqb b (bucketOf book first k) e) refl
+
+-- a clause of another bucket does not match
+other-head : (book : List ℕ) (first f m k : ℕ) → (f % 1024 ≡ bucketOf book first k → ⊥) → headMatches book f m (field book (first + k) 1) ≡ false
+unfolding headMatches bucketOf
+other-head book first f m k e =
+    let g = field book (field book (field book (first + k) 1) 4) 1 in
+    rw (headMatches, ne-eqb f g (λ (x : f ≡ g). e (ap (λ (y : ℕ). y % 1024) x))) refl
+
+-- up to the next clause of f's bucket nothing matches
+bucket-skips : (book : List ℕ) (first f m k j : ℕ) → nextMatch book f m first k j ≡ nextMatch book f m first (nextIn book first (f % 1024) k j) (k + j - nextIn book first (f % 1024) k j)
+unfolding nextIn nextMatch
+bucket-skips book first f m k zero = let z : k + 0 - k ≡ 0 = omega arith in rw z refl
+bucket-skips book first f m k (suc j) = go (eqb (f % 1024) (bucketOf book first k)) refl (bucket-skips book first f m (suc k) j)
+  where
+    N : ℕ
+    N = nextIn book first (f % 1024) (suc k) j
+
+    go : (t : Bool) → eqb (f % 1024) (bucketOf book first k) ≡ t
+        → nextMatch book f m first (suc k) j ≡ nextMatch book f m first N (suc k + j - N)
+        → nextMatch book f m first k (suc j) ≡ nextMatch book f m first (elim t [ true ↦ k | false ↦ N ]) (k + suc j - elim t [ true ↦ k | false ↦ N ])
+    go true e ih = let z : k + suc j - k ≡ suc j = omega arith in rw z refl
+    go false e ih =
+        let z : k + suc j ≡ suc k + j = omega arith in
+        let d = other-head book first f m k (λ x. let y = eq-eqb (f % 1024) (bucketOf book first k) x in let w : _≡_ {A = ℕ} 0 1 = cc in absurd (omega arith)) in
+        rw (nextMatch, d) (ih ∙ ap (λ (n : ℕ). nextMatch book f m first N (n - N)) (sym z))
+
+-- so the word of the index may be taken for k
+pub skip-to : (book : List ℕ) (first n b k r : ℕ) → k ≤ n → r ≡ nextIn book first b k (n - k) → Skips book first n b k r
+skip-to book first n b k r h e =
+    let x = in-bounds book first b k (n - k) in
+    record {
+      from = rw e (x .0);
+      within = rw e (omega (arith, x .1));
+      skips = λ f m p. rw (e, ← p) (bucket-skips book first f m k (n - k) ∙ (let z : k + (n - k) ≡ n = omega arith in rw z refl));
+    }
+
+pub skip-none : (book : List ℕ) (first n b k : ℕ) → k ≤ n → Skips book first n b k k
+skip-none book first n b k h = record { from = omega arith; within = h; skips = λ f m p. refl }
+
+-- EMPTYING
+pub empty-none : (n : ℕ) (ws : List ℕ) → EmptyFrom n 0 ws ws
+empty-none n ws = record { firsts = λ x h. absurd (omega arith); below = keeps-refl 0 4096 ws; above = keeps-refl (4096 + 0) 16384 ws }
+
+pub empty-more : (n b : ℕ) (ws ws₁ : List ℕ) → b < 1024 → length ws ≡ 16384 → EmptyFrom n b ws ws₁ → EmptyFrom n (b + 1) ws (set ws₁ (4096 + b) n)
+empty-more n b ws ws₁ h l E = record {
+  firsts = λ x a. go x a (decLt x b);
+  below = keeps-trans (E .below) (keeps-set 0 4096 ws₁ (4096 + b) n (inr (omega arith)));
+  above = keeps-trans (keeps-narrow (omega arith) (omega arith) (E .above)) (keeps-set (4096 + (b + 1)) 16384 ws₁ (4096 + b) n (inl (omega arith)));
+}
+  where
+    go : (x : ℕ) → x < b + 1 → Dec (x < b) → getD (set ws₁ (4096 + b) n) (4096 + x) 0 ≡ n
+    go x a (yes y) = getD-set-other ws₁ (4096 + b) (4096 + x) n 0 (λ z. omega arith) ∙ E .firsts x y
+    go x a (no y) = let e : x ≡ b = omega arith in rw e (getD-set-same ws₁ (4096 + b) n 0 (omega (arith, E .below .size, l)))
+
+-- MAKING
+pub made-none : (book : List ℕ) (first n : ℕ) (ws ws₁ : List ℕ) → EmptyFrom n 1024 ws ws₁ → IndexedFrom book first n n ws₁ ws₁
+unfolding nextIn
+made-none book first n ws ws₁ E = record {
+  firsts = λ b h. E .firsts b h ∙ (let z : n - n ≡ 0 = omega arith in rw z refl);
+  nexts = λ j a b. absurd (omega arith);
+  below = keeps-refl 0 4096 ws₁;
+  between = keeps-refl 5120 (5120 + n) ws₁;
+  above = keeps-refl (5120 + n) 16384 ws₁;
+}
+
+pub made-from : (book : List ℕ) (first n i : ℕ) (ws ws₁ ws₂ : List ℕ) → i ≤ 0 → EmptyFrom n 1024 ws ws₁ → IndexedFrom book first n i ws₁ ws₂ → IndexedFrom book first n 0 ws ws₂
+made-from book first n zero ws ws₁ ws₂ z E I = record {
+  firsts = I .firsts;
+  nexts = I .nexts;
+  below = keeps-trans (E .below) (I .below);
+  between = keeps-trans (keeps-narrow (omega arith) (omega arith) (E .above)) (I .between);
+  above = keeps-trans (keeps-narrow (omega arith) (omega arith) (E .above)) (I .above);
+}
+made-from book first n (suc i) ws ws₁ ws₂ z E I = absurd (omega arith)
+
+module _ (book : List ℕ) (first n i : ℕ) (ws ws₁ : List ℕ) (l : length ws ≡ 16384) (m : n ≤ 1024) (h : i < n) (I : IndexedFrom book first n (i + 1) ws ws₁) (b : ℕ) (e : b ≡ bucketOf book first i) (c : b < 1024) where
+  size-here : length ws₁ ≡ 16384
+  size-here = I .below .size ∙ l
+
+  abbrev one : List ℕ
+  one = set ws₁ (5120 + i) (getD ws₁ (4096 + b) 0)
+
+  abbrev two : List ℕ
+  two = set one (4096 + b) i
+
+  firsts-more : (x : ℕ) → x < 1024 → getD two (4096 + x) 0 ≡ nextIn book first x i (n - i)
+  firsts-more x a = go (decLt x b) (decLt b x)
+    where
+      other : (x ≡ b → ⊥) → getD two (4096 + x) 0 ≡ nextIn book first x i (n - i)
+      other d =
+          getD-set-other one (4096 + b) (4096 + x) i 0 (λ z. d (omega (arith, z))) ∙ getD-set-other ws₁ (5120 + i) (4096 + x) (getD ws₁ (4096 + b) 0) 0 (λ z. omega arith)
+          ∙ I .firsts x a ∙ in-other book first x i n h (λ z. d (z ∙ sym e))
+
+      go : Dec (x < b) → Dec (b < x) → getD two (4096 + x) 0 ≡ nextIn book first x i (n - i)
+      go (yes u) v = other (λ (z : x ≡ b). omega arith)
+      go (no u) (yes v) = other (λ (z : x ≡ b). omega arith)
+      go (no u) (no v) =
+          let z : x ≡ b = omega arith in
+          rw z (getD-set-same one (4096 + b) i 0 (simp length-set (omega (arith, size-here)))) ∙ in-this book first x i n h (z ∙ e)
+
+  nexts-more : (j : ℕ) → i ≤ j → j < n → getD two (5120 + j) 0 ≡ nextIn book first (bucketOf book first j) (j + 1) (n - (j + 1))
+  nexts-more j u v = getD-set-other one (4096 + b) (5120 + j) i 0 (λ z. omega arith) ∙ go (decLt i j)
+    where
+      go : Dec (i < j) → getD one (5120 + j) 0 ≡ nextIn book first (bucketOf book first j) (j + 1) (n - (j + 1))
+      go (yes w) = getD-set-other ws₁ (5120 + i) (5120 + j) (getD ws₁ (4096 + b) 0) 0 (λ z. omega arith) ∙ I .nexts j (omega arith) v
+      go (no w) =
+          let z : j ≡ i = omega arith in
+          rw z (getD-set-same ws₁ (5120 + i) (getD ws₁ (4096 + b) 0) 0 (omega (arith, size-here)) ∙ I .firsts b c ∙ ap (λ (x : ℕ). nextIn book first x (i + 1) (n - (i + 1))) e)
+
+  outside : (lo hi : ℕ) → (hi ≤ 4096) ⊎ (5120 + i < lo) ⊎ ((5120 ≤ lo) × (hi ≤ 5120 + i)) → Keeps lo hi ws₁ two
+  outside lo hi (inl x) = keeps-trans (keeps-set lo hi ws₁ (5120 + i) _ (inr (omega arith))) (keeps-set lo hi one (4096 + b) i (inr (omega arith)))
+  outside lo hi (inr (inl x)) = keeps-trans (keeps-set lo hi ws₁ (5120 + i) _ (inl x)) (keeps-set lo hi one (4096 + b) i (inl (omega arith)))
+  outside lo hi (inr (inr x)) = keeps-trans (keeps-set lo hi ws₁ (5120 + i) _ (inr (x .1))) (keeps-set lo hi one (4096 + b) i (inl (omega (arith, x .0))))
+
+  pub made-more : IndexedFrom book first n i ws two
+  made-more = record {
+    firsts = firsts-more;
+    nexts = nexts-more;
+    below = keeps-trans (I .below) (outside 0 4096 (inl (omega arith)));
+    between = keeps-trans (keeps-narrow (omega arith) (omega arith) (I .between)) (outside 5120 (5120 + i) (inr (inr (omega arith, omega arith))));
+    above = keeps-trans (I .above) (outside (5120 + n) 16384 (inr (inl (omega arith))));
+  }
+
+-- from 0 on, the whole run is indexed
+pub made-all : (book : List ℕ) (first n : ℕ) (ws ws′ : List ℕ) → IndexedFrom book first n 0 ws ws′ → Indexed book first n ws′
+made-all book first n ws ws′ I = record { firsts = λ b h. I .firsts b h ∙ (let z : n - 0 ≡ n = omega arith in rw z refl); nexts = λ i h. I .nexts i (omega arith) h }
+
+-- the index is kept with its words
+pub indexed-same : (book : List ℕ) (first n : ℕ) {ws ws′ : List ℕ} → n ≤ 1024 → Keeps 4096 6144 ws ws′ → Indexed book first n ws → Indexed book first n ws′
+indexed-same book first n m K I = record
+    { firsts = λ b h. K .same (4096 + b) (omega arith) (omega arith) ∙ I .firsts b h; nexts = λ i h. K .same (5120 + i) (omega arith) (omega arith) ∙ I .nexts i h }
+
+-- THE CODE'S STEPS ALONG THE INDEX
+pub skip-next : (book : List ℕ) (first n : ℕ) (ws : List ℕ) (i b own : ℕ) → Indexed book first n ws → i < n → own ≡ bucketOf book first i → own ≡ b → Skips book first n b (i + 1) (getD ws (5120 + i) 0)
+skip-next book first n ws i b own I h e t = skip-to book first n b (i + 1) (getD ws (5120 + i) 0) (omega arith) (I .nexts i h ∙ ap (λ (x : ℕ). nextIn book first x (i + 1) (n - (i + 1))) (sym e ∙ t))
+
+pub skip-first : (book : List ℕ) (first n : ℕ) (ws : List ℕ) (k b : ℕ) → Indexed book first n ws → b < 1024 → k ≡ 0 → Skips book first n b k (getD ws (4096 + b) 0)
+skip-first book first n ws k b I h e =
+    let z : n - k ≡ n = omega arith in
+    skip-to book first n b k (getD ws (4096 + b) 0) (omega arith) (I .firsts b h ∙ rw (z, e) refl)

@@ -1,0 +1,45 @@
+-- An index of a run of at most 1,024 clauses by head symbol. The buckets are the symbols' ten lowest bits.
+-- Word 4096 + b is the number of the first clause in bucket b, and word 5120 + i that of the next clause in clause i's bucket; n, the length of the run, is none.
+use mathlib.Core.Path.{_≡_}
+use mathlib.Core.Bool.{Bool, true, false}
+use mathlib.Core.List.{List}
+use Prim.Native.Nat.{ℕ, zero, suc, _+_, _-_, _%_, _≤_, _<_}
+use lib.Dec.{eqb}
+use lib.ListN.{getD}
+use Rattle.book.specs.Records.{field}
+use Rattle.words.specs.Frame.{Keeps}
+use Rattle.index.specs.Runs.{nextMatch}
+
+-- the bucket of clause i of the run from link `first` on
+unfoldable pub bucketOf : List ℕ → ℕ → ℕ → ℕ
+bucketOf book first i = field book (field book (field book (first + i) 1) 4) 1 % 1024
+
+-- the first of the j clauses from number k on that is in bucket b, or k + j
+unfoldable pub nextIn : List ℕ → ℕ → ℕ → ℕ → ℕ → ℕ
+nextIn book first b k zero = k
+nextIn book first b k (suc j) = elim (eqb b (bucketOf book first k)) [ true ↦ k | false ↦ nextIn book first b (suc k) j ]
+
+-- the words say so
+pub record Indexed (book : List ℕ) (first n : ℕ) (ws : List ℕ) : Type 0 where
+  pub firsts : (b : ℕ) → b < 1024 → getD ws (4096 + b) 0 ≡ nextIn book first b 0 n
+  pub nexts : (i : ℕ) → i < n → getD ws (5120 + i) 0 ≡ nextIn book first (bucketOf book first i) (i + 1) (n - (i + 1))
+
+-- what the code of the index leaves: the buckets below b empty, and nothing else changed
+pub record EmptyFrom (n b : ℕ) (ws ws′ : List ℕ) : Type 0 where
+  pub firsts : (x : ℕ) → x < b → getD ws′ (4096 + x) 0 ≡ n
+  pub below : Keeps 0 4096 ws ws′
+  pub above : Keeps (4096 + b) 16384 ws ws′
+
+-- the clauses from number i on indexed, and nothing else changed; from 0 on, that is `Indexed`
+pub record IndexedFrom (book : List ℕ) (first n i : ℕ) (ws ws′ : List ℕ) : Type 0 where
+  pub firsts : (b : ℕ) → b < 1024 → getD ws′ (4096 + b) 0 ≡ nextIn book first b i (n - i)
+  pub nexts : (j : ℕ) → i ≤ j → j < n → getD ws′ (5120 + j) 0 ≡ nextIn book first (bucketOf book first j) (j + 1) (n - (j + 1))
+  pub below : Keeps 0 4096 ws ws′
+  pub between : Keeps 5120 (5120 + i) ws ws′
+  pub above : Keeps (5120 + n) 16384 ws ws′
+
+-- for a symbol of bucket b nothing matches from clause k up to clause r
+pub record Skips (book : List ℕ) (first n b k r : ℕ) : Type 0 where
+  pub from : k ≤ r
+  pub within : r ≤ n
+  pub skips : (f m : ℕ) → f % 1024 ≡ b → nextMatch book f m first k (n - k) ≡ nextMatch book f m first r (n - r)

@@ -1,0 +1,19 @@
+-- The clauses of a run by their heads.
+use mathlib.Core.Bool.{Bool, true, false, _&&_}
+use mathlib.Core.List.{List}
+use Prim.Native.Nat.{ℕ, zero, suc, _+_, _<_}
+use lib.Dec.{eqb}
+use Rattle.book.specs.Records.{field, records}
+
+-- the head of clause record c has symbol f and m arguments
+unfoldable pub headMatches : List ℕ → ℕ → ℕ → ℕ → Bool
+headMatches book f m c = eqb f (field book (field book c 4) 1) && eqb m (field book (field book c 4) 2)
+
+-- the first of the j links from number k on whose clause matches, or k + j
+unfoldable pub nextMatch : List ℕ → ℕ → ℕ → ℕ → ℕ → ℕ → ℕ
+nextMatch book f m first k zero = k
+nextMatch book f m first k (suc j) = elim (headMatches book f m (field book (first + k) 1)) [ true ↦ k | false ↦ nextMatch book f m first (suc k) j ]
+
+-- the links of a run of clauses, and the clauses' heads, are in the book
+abbrev pub ClauseRun : List ℕ → ℕ → ℕ → Type 0
+ClauseRun book first n = (k : ℕ) → k < n → (first + k < records book) × (field book (first + k) 1 < records book) × (field book (field book (first + k) 1) 4 < records book)

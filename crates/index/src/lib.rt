@@ -1,0 +1,135 @@
+// Finding clauses by their heads: the next clause of a run whose head matches an atom, and an index of the question's own run by head symbol.
+ghost use mathlib.Core.Path.{_≡_};
+ghost use Prim.Native.Nat.{_+_, _-_, _*_, _%_, _≤_, _<_};
+ghost use lib.ListN.{length, getD, set};
+ghost use Rattle.book.specs.Records.{field as bookField, records};
+ghost use Rattle.words.specs.Readable.{Readable};
+ghost use Rattle.index.specs.Runs.{headMatches, nextMatch, ClauseRun};
+ghost use Rattle.index.specs.Index.{bucketOf, Indexed, EmptyFrom, IndexedFrom, Skips};
+
+// Whether the head of clause c has symbol f and m arguments.
+fn head_matches(book: &[u8], c: u32, f: u32, m: u32) -> bool
+    requires { ⌜ Readable (now book) ⌝ }
+    requires { ⌜ (c < records (now book)) × (bookField (now book) c 4 < records (now book)) ⌝ }
+    ensures { λ r. ⌜ r ≡ headMatches (now (book .entry)) f m c ⌝ }
+{
+    let h = words::field(book, c, 4);
+    let g = words::field(book, h, 1);
+    let n = words::field(book, h, 2);
+    if f == g {
+        return m == n;
+    }
+    false
+}
+
+// The first of the clauses of a run of n, from number k on, that matches; n if there is none.
+pub fn seek_run(book: &[u8], first: u32, n: u32, k: u32, f: u32, m: u32) -> u32
+    requires { ⌜ Readable (now book) ⌝ }
+    requires { ⌜ ClauseRun (now book) first n ⌝ }
+    requires { ⌜ (k ≤ n) × (first < 4096) × (n < 4096) ⌝ }
+    ensures { λ r. ⌜ r ≡ nextMatch (now (book .entry)) f m first k (n - k) ⌝ }
+{
+    let mut i = k;
+    while i < n {
+        let c = words::field(book, first + i, 1);
+        if head_matches(book, c, f, m) {
+            return i;
+        }
+        i += 1;
+    }
+    i
+}
+
+// The bucket of clause i of a run: its head symbol, by its ten lowest bits.
+fn bucket(book: &[u8], first: u32, n: u32, i: u32) -> u32
+    requires { ⌜ Readable (now book) ⌝ }
+    requires { ⌜ ClauseRun (now book) first n ⌝ }
+    requires { ⌜ (i < n) × (first < 4096) × (n < 4096) ⌝ }
+    ensures { λ r. ⌜ (r ≡ bucketOf (now (book .entry)) first i) × (r < 1024) ⌝ }
+{
+    let c = words::field(book, first + i, 1);
+    let h = words::field(book, c, 4);
+    let g = words::field(book, h, 1);
+    g % 1024
+}
+
+// Empties the index: no bucket has a clause of a run of n.
+fn empty_index(ws: &mut [u32], n: u32)
+    requires { ⌜ length (now ws) ≡ 16384 ⌝ }
+    ensures { λ r. ⌜ EmptyFrom n 1024 (now (ws .entry)) (now (ws .exit)) ⌝ }
+{
+    let mut b: u32 = 0;
+    while b < 1024 {
+        ws[(4096 + b) as usize] = n;
+        b += 1;
+    }
+}
+
+// Makes the index of a run of n clauses, the last one first, so that each bucket's clauses stand in the run's order.
+pub fn make_index(book: &[u8], ws: &mut [u32], first: u32, n: u32)
+    requires { ⌜ Readable (now book) ⌝ }
+    requires { ⌜ ClauseRun (now book) first n ⌝ }
+    requires { ⌜ (first < 4096) × (n ≤ 1024) × (length (now ws) ≡ 16384) ⌝ }
+    ensures { λ r. ⌜ IndexedFrom (now (book .entry)) first n 0 (now (ws .entry)) (now (ws .exit)) ⌝ }
+{
+    empty_index(ws, n);
+    let mut i = n;
+    while 0 < i {
+        i -= 1;
+        let b = bucket(book, first, n, i);
+        let at = (4096 + b) as usize;
+        let next = ws[at];
+        ws[(5120 + i) as usize] = next;
+        ws[at] = i;
+    }
+}
+
+// The next clause to try after clause i for a symbol of bucket b.
+fn after(book: &[u8], ws: &[u32], first: u32, n: u32, i: u32, b: u32) -> u32
+    requires { ⌜ Readable (now book) ⌝ }
+    requires { ⌜ ClauseRun (now book) first n ⌝ }
+    requires { ⌜ (i < n) × (first < 4096) × (n ≤ 1024) × (length (now ws) ≡ 16384) ⌝ }
+    requires { ⌜ Indexed (now book) first n (now ws) ⌝ }
+    ensures { λ r. ⌜ Skips (now (book .entry)) first n b (i + 1) r ⌝ }
+{
+    let own = bucket(book, first, n, i);
+    if own == b {
+        return ws[(5120 + i) as usize];
+    }
+    i + 1
+}
+
+// The first clause to try from clause k on for a symbol of bucket b.
+fn begin(book: &[u8], ws: &[u32], first: u32, n: u32, k: u32, b: u32) -> u32
+    requires { ⌜ Readable (now book) ⌝ }
+    requires { ⌜ ClauseRun (now book) first n ⌝ }
+    requires { ⌜ (k ≤ n) × (first < 4096) × (n ≤ 1024) × (length (now ws) ≡ 16384) ⌝ }
+    requires { ⌜ b < 1024 ⌝ }
+    requires { ⌜ Indexed (now book) first n (now ws) ⌝ }
+    ensures { λ r. ⌜ Skips (now (book .entry)) first n b k r ⌝ }
+{
+    if k == 0 {
+        return ws[(4096 + b) as usize];
+    }
+    after(book, ws, first, n, k - 1, b)
+}
+
+// The first of the clauses of an indexed run of n, from number k on, that matches; n if there is none.
+pub fn seek_indexed(book: &[u8], ws: &[u32], first: u32, n: u32, k: u32, f: u32, m: u32) -> u32
+    requires { ⌜ Readable (now book) ⌝ }
+    requires { ⌜ ClauseRun (now book) first n ⌝ }
+    requires { ⌜ (k ≤ n) × (first < 4096) × (n ≤ 1024) × (length (now ws) ≡ 16384) ⌝ }
+    requires { ⌜ Indexed (now book) first n (now ws) ⌝ }
+    ensures { λ r. ⌜ r ≡ nextMatch (now (book .entry)) f m first k (n - k) ⌝ }
+{
+    let b = f % 1024;
+    let mut i = begin(book, ws, first, n, k, b);
+    while i < n {
+        let c = words::field(book, first + i, 1);
+        if head_matches(book, c, f, m) {
+            return i;
+        }
+        i = after(book, ws, first, n, i, b);
+    }
+    i
+}

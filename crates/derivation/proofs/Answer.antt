@@ -1,10 +1,10 @@
 -- One answer: the values that the solution of its store gives the unknowns. Its instances are exactly the fillings that satisfy the store.
-use mathlib.Core.Path.{_≡_, refl, ap, sym, _∙_, subst}
-use mathlib.Core.List.{List, [], _∷_, map, map-map}
+use mathlib.Core.Path.{_≡_, ap, sym, _∙_, subst}
+use mathlib.Core.List.{List, map, map-map}
 use Prim.Native.Nat.{ℕ, suc, zero, _+_, _<_}
 use native.Mathlib.Omega.{arith}
 use native.Mathlib.Nat.{add-zero, zero-add}
-use lib.ListN.{length, length-map}
+use lib.ListN.{length-map}
 use Rattle.book.specs.Records.{members}
 use Rattle.machine.specs.Term.{Term, var, app, nil, sub}
 use Rattle.machine.specs.Store.{Entry}
@@ -14,7 +14,7 @@ use Rattle.derivation.specs.Derivation.{fillingOf}
 use Rattle.derivation.specs.Given.{Value, AnswerOf}
 use Rattle.derivation.proofs.Lists.{All, first, others}
 use Rattle.derivation.proofs.Inside.{Agree}
-use Rattle.derivation.proofs.Reading.{Sat, sat-after}
+use Rattle.derivation.proofs.Satisfying.{Sat, sat-after}
 use Rattle.derivation.proofs.Solution.{Solution}
 
 -- what holds of each of the unknowns on the list of the writer

@@ -1,8 +1,8 @@
 -- The answers of a call: what the run's invariant says at the end, for answer k, of its store and of its bytes. Of a refused call there is nothing to say.
 use mathlib.Core.Path.{_≡_, refl, ap, sym, _∙_, subst}
-use mathlib.Core.List.{List, [], _∷_, map}
-use mathlib.Core.Bool.{Bool, true, false, _&&_}
-use Prim.Native.Nat.{ℕ, suc, zero, _≤_, _<_, _/_, _%_}
+use mathlib.Core.List.{List, [], map}
+use mathlib.Core.Bool.{true, _&&_}
+use Prim.Native.Nat.{ℕ, _<_, _/_, _%_}
 use native.Mathlib.Omega.{arith}
 use lib.Dec.{leb, eqb}
 use lib.ListN.{length, getD, length-map}
@@ -16,9 +16,8 @@ use Rattle.book.specs.Decode.{questionOf}
 use Rattle.book.proofs.Tests.{and-true, eqb-says}
 use Rattle.book.proofs.Accepted.{Accepted, call-accepted}
 use Rattle.book.proofs.AcceptedScoped.{accepted-scoped}
-use Rattle.machine.specs.declared.Ending.{Ending}
 use Rattle.machine.specs.declared.Ending.the-variants.{Complete}
-use Rattle.machine.specs.declared.Outcome.the-variants.{Declined, Ended}
+use Rattle.machine.specs.declared.Outcome.the-variants.{Ended}
 use Rattle.machine.specs.Term.{Term, app, nil, sub}
 use Rattle.machine.specs.Store.{Entry}
 use Rattle.machine.specs.Answers.{Line, termsOf, answerIn}
@@ -29,7 +28,7 @@ use Rattle.derivation.specs.Given.{AnswerOf, storesGiven, storesOf}
 use Rattle.derivation.specs.Demand3.{Derivable, InstanceOf, Renumbered}
 use Rattle.derivation.proofs.Lists.{all-at, some-at, map-at}
 use Rattle.derivation.proofs.Buffer.{buffer-says}
-use Rattle.derivation.proofs.Search.{Group, linesIn, RightGroup, Covers, Final}
+use Rattle.derivation.proofs.Search.{Group, linesIn, RightGroup, Final}
 use Rattle.derivation.proofs.Start.{Asked, asked-same, solved-ok}
 
 -- the answers of a call that left x, from the stores ss

@@ -1,11 +1,8 @@
 -- Demand 3 holds: the theorems that a user of the library relies on. specs/Demand3 says what each states, `call-answered` (Calls) holds the work.
-use mathlib.Core.Path.{_≡_, refl, ap, sym, _∙_, subst}
-use mathlib.Core.List.{List, [], _∷_, map}
-use Prim.Native.Nat.{ℕ, _<_}
-use lib.ListN.{length, getD}
+use mathlib.Core.Path.{_∙_, subst}
+use mathlib.Core.List.{List}
+use Prim.Native.Nat.{ℕ}
 use Rattle.book.specs.Decode.{questionOf}
-use Rattle.machine.specs.Term.{Term, sub}
-use Rattle.machine.specs.Answers.{answerIn}
 use Rattle.machine.specs.Call.{call}
 use Rattle.derivation.specs.Derivation.{Follows}
 use Rattle.derivation.specs.Given.{storesOf}

@@ -1,12 +1,12 @@
 -- Answers that are the same up to the numbers of their open variables have the same instances, and the renumbering is one-to-one.
-use mathlib.Core.Path.{_≡_, refl, ap, sym, _∙_, subst}
-use mathlib.Core.List.{List, [], _∷_, map, map-map}
+use mathlib.Core.Path.{_≡_, refl, ap, sym, _∙_}
+use mathlib.Core.List.{List, [], _∷_, map}
 use Prim.Native.Nat.{ℕ}
 use lib.ListN.{length, length-map}
-use Rattle.machine.specs.Term.{Term, Terms, var, app, nil, cons, sub, subs}
+use Rattle.machine.specs.Term.{Term, Terms, var, app, cons, sub, subs}
 use Rattle.machine.proofs.TermLaws.{sub-sub}
 use Rattle.derivation.specs.Demand3.{InstanceOf, renumber, Renumbered}
-use Rattle.derivation.proofs.Lists.{All, done, more, first, others, Some, here, later, cases, none-of}
+use Rattle.derivation.proofs.Lists.{Some, cases, none-of}
 
 -- INSTANCES
 

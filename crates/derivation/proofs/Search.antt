@@ -4,12 +4,11 @@ use mathlib.Core.Path.{_≡_, refl, ap, sym, _∙_, subst}
 use mathlib.Core.Logic.{_⊎_, inl, inr}
 use mathlib.Core.List.{List, [], _∷_, _++_, map, append-assoc}
 use mathlib.Core.Bool.{Bool, true, false}
-use Prim.Native.Nat.{ℕ, suc, zero, _+_, _-_, _≤_, _<_}
+use Prim.Native.Nat.{ℕ, suc, zero, _+_, _-_, _≤_}
 use native.Mathlib.Omega.{arith}
-use native.Mathlib.Nat.{add-zero, zero-add}
+use native.Mathlib.Nat.{zero-add}
 use lib.Dec.{eqb}
 use lib.ListN.{length, length-append, length-map}
-use Rattle.machine.specs.declared.Limit.{Limit}
 use Rattle.machine.specs.declared.Limit.the-variants.{Budget}
 use Rattle.machine.specs.declared.Ending.{Ending}
 use Rattle.machine.specs.declared.Ending.the-variants.{Complete, Enough, Stopped}
@@ -22,9 +21,9 @@ use Rattle.machine.specs.Run.{Request, State, Outgoing, next, ended, counted, g
 use Rattle.derivation.specs.Derivation.{fillingOf}
 use Rattle.derivation.specs.Given.{AnswerOf, storeIf, givenBy, storesGiven}
 use Rattle.derivation.specs.Demand3.{Renumbered}
-use Rattle.derivation.proofs.Lists.{All, done, more, first, others, alone, join, Some, here, later, cases, none-of, some-left, some-right, some-split, append-none, map-append}
+use Rattle.derivation.proofs.Lists.{All, first, others, alone, join, Some, here, later, cases, none-of, some-left, some-right, some-split, append-none, map-append}
 use Rattle.derivation.proofs.Inside.{Agree, agree-less}
-use Rattle.derivation.proofs.Reading.{Sat}
+use Rattle.derivation.proofs.Satisfying.{Sat}
 use Rattle.derivation.proofs.Meaning.{Sol}
 use Rattle.derivation.proofs.Unify.{Under}
 use Rattle.derivation.proofs.Good.{Good, GoodBranch, AllGood}

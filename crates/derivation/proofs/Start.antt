@@ -1,11 +1,11 @@
 -- The start: what its one thread asks of a filling is that the question follows, and it is good if the question is in scope.
 use mathlib.Core.Path.{_≡_, refl, ap, sym, _∙_, subst, fun-ext}
-use mathlib.Core.Logic.{_⊎_, inl, inr}
+use mathlib.Core.Logic.{inr}
 use mathlib.Core.List.{List, [], _∷_}
-use Prim.Native.Nat.{ℕ, _+_, _≤_}
+use Prim.Native.Nat.{ℕ, _+_}
 use native.Mathlib.Omega.{arith}
 use native.Mathlib.Nat.{zero-add}
-use lib.ListN.{length, length-replicate}
+use lib.ListN.{length-replicate}
 use Rattle.book.specs.Tree.{Question}
 use Rattle.book.specs.Scoped.{ScopedQuestion}
 use Rattle.machine.specs.Term.{Term}

@@ -1,13 +1,11 @@
 -- A term has at most one value in a store, so that an answer is determined by its branch's store.
-use mathlib.Core.Path.{_≡_, refl, ap, sym, _∙_, subst}
-use mathlib.Core.List.{List, [], _∷_}
-use Prim.Native.Nat.{ℕ, _<_}
+use mathlib.Core.Path.{_≡_, refl, sym, _∙_, subst}
+use mathlib.Core.List.{List}
+use Prim.Native.Nat.{ℕ}
 use native.Mathlib.Omega.{arith}
-use lib.ListN.{length, getD}
 use lib.Seq.{ext-getD}
-use Rattle.machine.specs.Term.{Term, Terms, var, app, nil, cons, sub, subs, spread}
-use Rattle.machine.specs.Store.{Entry, walk}
-use Rattle.derivation.specs.Derivation.{fillingOf}
+use Rattle.machine.specs.Term.{Term, Terms, app, nil, cons, sub, subs, spread}
+use Rattle.machine.specs.Store.{Entry}
 use Rattle.derivation.specs.Given.{Value, Values, open-value, term-value, no-values, more-values, AnswerOf}
 use Rattle.derivation.proofs.Lists.{All, first, others}
 

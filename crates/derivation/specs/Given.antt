@@ -4,7 +4,6 @@ use mathlib.Core.List.{List, [], _∷_, _++_}
 use Prim.Native.Nat.{ℕ, zero, suc, _-_, _<_, _/_}
 use lib.ListN.{length}
 use Rattle.book.specs.declared.Verdict.the-variants.{Fine, Refused}
-use Rattle.book.specs.Tree.{Question}
 use Rattle.book.specs.Refusals.{verdict}
 use Rattle.book.specs.Decode.{questionOf}
 use Rattle.machine.specs.Term.{Term, Terms, var, app, nil, cons}

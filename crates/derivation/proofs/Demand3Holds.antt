@@ -6,7 +6,7 @@ use Rattle.book.specs.Decode.{questionOf}
 use Rattle.machine.specs.Call.{call}
 use Rattle.derivation.specs.Derivation.{Follows}
 use Rattle.derivation.specs.Given.{storesOf}
-use Rattle.derivation.specs.Demand3.{Right, AnswersRight, SearchComplete, MachineSound, MachineComplete, SameAnswers}
+use Rattle.derivation.specs.Demand3.{Right, AnswersRight, SearchComplete, OneAnswer, MachineSound, MachineComplete, SameAnswers}
 use Rattle.derivation.proofs.Values.{answer-once}
 use Rattle.derivation.proofs.Renumbering.{renumbered-length, instance-back, instance-there}
 use Rattle.derivation.proofs.Calls.{Answered, call-answered}
@@ -16,6 +16,9 @@ module _ (book : List ℕ) (budget wanted : ℕ) (workspace out : List ℕ) wher
   proved = call-answered book budget wanted workspace out
 
   -- of the machine
+
+  pub one-answer : OneAnswer book budget wanted workspace out
+  one-answer k ts us a b = answer-once _ _ ts us (a .1) (b .1)
 
   pub machine-sound : MachineSound book budget wanted workspace out
   machine-sound k ts a = subst (Right (questionOf book)) (answer-once _ _ _ ts (proved .reads k (a .0)) (a .1))

@@ -25,7 +25,7 @@ use Rattle.derivation.specs.Derivation.{Follows, clause-used, nothing-to
 use Rattle.derivation.specs.Demand3.{Derivable}
 use Rattle.derivation.specs.Examples.{a, b, twoFacts, askedForOne, EnoughComplete}
 
--- what the call replies and leaves
+-- what the call replies and leaves, by computation from the bytes
 replied : (askedForOne .reply .outcome ≡ Ended Enough) × (askedForOne .reply .tally .answers ≡ 1) × (answerIn (askedForOne .out) 0 ≡ app a nil ∷ [])
 unfolding recordAt field records lastRecord members kindOf kindAt isGoal isTerm lowestFailing lower kindFits runFits bodyFits fieldsFitAs fieldsFit goalAtKind argumentLink clauseLink isTie eachOf bodyTarget targetsFitAs targetsFit bodyPointer pointersAs pointers allPointers times once scopeFault isNew tieScope ownTieScope overLinks bodyScope scopeBy scopeAt ownClauseScope scopeTest roomFits sizeFits kindOk fieldsOk targetsOk kindTest fieldTest targetTest treeTest recordTests bookVerdict verdict countTexts tieOf textsFrom textBy textAt textOf argumentsOf tiesFrom clausesFrom goalBy bodyBy clauseBy goalAt goalOf clauseOf clausesOf questionOf count fill spread pairUp entryAt follow walk entryFor newEntries settle candidates added tryAll taking solve withBodyOf enter order pair lookOn look advance before placeOf note write bytesOf linesIn linesFor firstTerms pushLine termsOf answerIn counted given goOn answering after step run start solved filledBuffer runOf accepted call twoFacts askedForOne
 replied = (refl, refl, refl)

@@ -103,6 +103,10 @@ module _ (u places : ℕ) (Asked : (ℕ → Term) → Type 0) (asked-same : (σ 
   not-complete : {ss : List (List Entry)} {n : ℕ} {ls : List Line} (e : Ending) → Open e → Output ss n ls → Final e ss n ls
   not-complete e o out = record { output = out; covered = λ q. absurd (subst Open q o) }
 
+  -- a unit that gives no answer
+  same-output : {ss : List (List Entry)} {n : ℕ} {ls : List Line} → Output ss n ls → Output (ss ++ []) n ls
+  same-output {ss} {n} {ls} out = subst (λ (x : List (List Entry)). Output x n ls) (sym (append-none ss)) out
+
   goOn-ok : (y : Tally) (ls : List Line) (ths : List Thread) (ss : List (List Entry)) → Inv ths ss (y .answers) ls → Outgoing-ok ss (goOn y ls ths)
   unfolding goOn
   goOn-ok y ls [] ss i = record { output = i .output; covered = λ q σ z. go σ (i .covered σ z) }
@@ -219,9 +223,9 @@ module _ (u places : ℕ) (Asked : (ℕ → Term) → Type 0) (asked-same : (σ 
         end ms e false = goOn-ok (given (s .tally) b) (s .lines ++ ms) (s .waiting) (ss ++ (b .store ∷ [])) (inv ms e)
 
         go : (w : Written) → W ≡ w → Outgoing-ok (ss ++ storeIf b w) (answering (q .wanted) s b w)
-        go (cut l) e = rw (append-none ss) (not-complete (Stopped l) tt (i .output))
+        go (cut l) e = not-complete (Stopped l) tt (same-output (i .output))
         go (written ms) e = end ms e (eqb (suc (s .tally .answers)) (q .wanted))
-    after-ok s (stop l) ss i g under over = rw (append-none ss) (not-complete (Stopped l) tt (i .output))
+    after-ok s (stop l) ss i g under over = not-complete (Stopped l) tt (same-output (i .output))
 
     step-ok : (s : State) (ss : List (List Entry)) → Inv (s .thread ∷ s .waiting) ss (s .tally .answers) (s .lines)
         → Outgoing-ok (ss ++ givenBy q s (advance (s .thread))) (step q s)
@@ -232,7 +236,7 @@ module _ (u places : ℕ) (Asked : (ℕ → Term) → Type 0) (asked-same : (σ 
     pub run-ok : (n : ℕ) (s : State) (ss : List (List Entry)) → Inv (s .thread ∷ s .waiting) ss (s .tally .answers) (s .lines)
         → Final (run q n s .ending) (ss ++ storesGiven q n s) (run q n s .tally .answers) (run q n s .lines)
     unfolding run storesGiven
-    run-ok zero s ss i = rw (append-none ss) (not-complete (Stopped Budget) tt (i .output))
+    run-ok zero s ss i = not-complete (Stopped Budget) tt (same-output (i .output))
     run-ok (suc n) s ss i = subst
         (λ (x : List (List Entry)). Final (run q (suc n) s .ending) x (run q (suc n) s .tally .answers) (run q (suc n) s .lines))
         (append-assoc ss now (others-given (step q s))) (go (λ t j. run-ok n t (ss ++ now) j) (step q s) (step-ok s ss i))

@@ -1,12 +1,14 @@
--- Questions for the worked examples of proofs/Examples, and a statement that is refuted there.
+-- Questions for the worked examples of proofs/Examples, and the book and statement that proofs/EnoughMisses refutes.
 use mathlib.Core.Path.{_≡_}
 use mathlib.Core.List.{List, [], _∷_, _++_}
-use Prim.Native.Nat.{ℕ, _<_}
+use mathlib.Core.Bool.{false}
+use Prim.Native.Nat.{ℕ, zero, suc, _<_}
 use lib.ListN.{replicate}
 use Rattle.book.specs.Tree.{Text, Texts, offset, compound, noText, andText, Tie, Goal, Clauses, atom, and, suppose, clause, noBody, noClause, andClause, Question}
 use Rattle.book.specs.Decode.{questionOf}
-use Rattle.machine.specs.Term.{Term, var, cons, nil}
-use Rattle.machine.specs.Store.{Entry, bound}
+use Rattle.machine.specs.Term.{Term, Terms, var, cons, nil}
+use Rattle.machine.specs.Store.{open-entry, same, bound}
+use Rattle.machine.specs.Machine.{Branch, Thread, on, answered, stop, advance}
 use Rattle.machine.specs.Answers.{answerIn}
 use Rattle.machine.specs.declared.Ending.the-variants.{Enough}
 use Rattle.machine.specs.declared.Outcome.the-variants.{Ended}
@@ -66,9 +68,26 @@ c9 = record {
   unknowns = 1;
 }
 
--- the store that C9 would come to with the look left out: X is bound to f(X)
-abbrev pub unlooked : List Entry
-unlooked = bound f (cons (var 0) nil) ∷ []
+-- the thread after n units, if each leads to one
+unfoldable pub threadAfter : ℕ → Thread → Thread
+threadAfter zero t = t
+threadAfter (suc n) t = elim (advance t) [
+  | on ts ↦ elim ts [ [] ↦ t | u ∷ us ↦ threadAfter n u ]
+  | answered x ↦ t
+  | stop m ↦ t
+]
+
+-- C9's branch at its look: X is open and Y the same as X
+abbrev pub looked : Branch
+looked = record { goals = []; store = open-entry ∷ same 0 ∷ []; taken = 1; supposed = false }
+
+-- the arguments of f(X)
+abbrev pub justX : Terms
+justX = cons (var 0) nil
+
+-- the branch that C9 would come to with the look left out: X is bound to f(X)
+abbrev pub unlooked : Branch
+unlooked = record { goals = []; store = bound f justX ∷ same 0 ∷ []; taken = 1; supposed = false }
 
 -- THE BOOK of C3 extended: `p(a)`, `p(b)`; `p(X)`
 

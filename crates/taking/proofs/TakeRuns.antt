@@ -19,22 +19,11 @@ use Rattle.machine.specs.Run.{Request, counted}
 use Rattle.words.specs.Words.{termWord}
 use Rattle.branch.specs.State.{Tops, IsBranch, Sound, Waiting, putCell}
 use Rattle.branch.proofs.TakeLaws.{CellAt, and-unit, and-sound, and-branch, and-waiting, two-put}
 use Rattle.steps.specs.declared.Regs.{Regs}
 use Rattle.steps.specs.declared.Stepped.the-variants.{Onward}
-use Rattle.steps.specs.Takes.{andWords, andRegs, backRegs}
+use Rattle.taking.specs.Takes.{andWords, andRegs, backRegs}
 use Rattle.steps.specs.Search.{runOn, spentUnits, topsOf, Stands, Stands.in-hand, Stands.going-back, StepGives, StepGives.steps-on}
-use Rattle.steps.proofs.RunLaws.{unit-on}
-
-one-spent : (y : Tally) → counted y ≡ spentUnits 1 y
-unfolding counted spentUnits
-one-spent y = let z : suc (y .units) ≡ y .units + 1 = omega arith in rw z refl
-
--- one unit that gives one thread
-pub one-unit : (left : ℕ) (t u : Thread) (threads : List Thread) → 0 < left → advance t ≡ only u
-    → (q : Request) (y : Tally) (ls : List Line) → runOn q left y ls (t ∷ threads) ≡ runOn q (left - 1) (spentUnits 1 y) ls (u ∷ threads)
-one-unit left t u threads h e q y ls =
-    let z : left ≡ suc (left - 1) = omega arith in
-    ap (λ (n : ℕ). runOn q n y ls (t ∷ threads)) z ∙ unit-on q (left - 1) t (u ∷ []) threads y ls e ∙ ap (λ (x : Tally). runOn q (left - 1) x ls (u ∷ threads)) (one-spent y)
+use Rattle.steps.proofs.RunLaws.{unit-gives, one-unit}
 
 pub and-steps : (book : List ℕ) (F : Formed book) (ws ws′ : List ℕ) (r : Regs) (left : ℕ) (x : Branch) (threads : List Thread) → 0 < left → Sound book ws (topsOf r)
     → (B : IsBranch book ws (topsOf r) (r .cell) (r .taken) (r .supposed) x) → Waiting book ws (topsOf r) threads
@@ -58,14 +47,9 @@ and-written book r g b p q ws ws₁ ws₂ left right a c d e = rw (e, d, a, c) r
 module _ (book : List ℕ) (F : Formed book) (ws : List ℕ) (r : Regs) (left : ℕ) (x : Branch) (threads : List Thread) (h : 0 < left) (S : Sound book ws (topsOf r))
     (B : IsBranch book ws (topsOf r) (r .cell) (r .taken) (r .supposed) x) (W : Waiting book ws (topsOf r) threads)
     (X : CellAt book ws (r .made) (r .cells) (r .programs) (r .cell) (x .goals)) (k : kindAt book (X .g) ≡ atomKind) (l : r .taken < 512) where
-  gives : (us : List Thread) → advance (solving x) ≡ on us → (q : Request) (y : Tally) (ls : List Line) → runOn q left y ls (solving x ∷ threads) ≡ runOn q (left - 1) (spentUnits 1 y) ls (us ++ threads)
-  gives us e q y ls =
-      let z : left ≡ suc (left - 1) = omega arith in
-      ap (λ (n : ℕ). runOn q n y ls (solving x ∷ threads)) z ∙ unit-on q (left - 1) (solving x) us threads y ls e ∙ ap (λ (v : Tally). runOn q (left - 1) v ls (us ++ threads)) (one-spent y)
-
   pub atom-fails : candidates (field book (X .g) 1) (field book (X .g) 2) (X .program) ≡ [] → StepGives book ws ws r left (solving x ∷ threads) (Onward (backRegs r (r .alternatives)) 1)
   unfolding backRegs tryAll
-  atom-fails e = steps-on {r′ = backRegs r (r .alternatives)} {used = 1} h (omega arith) (going-back refl S W) (gives [] (atom-unit book F (topsOf r) ws (r .cell) (r .taken) (r .supposed) x S B X k l [] e))
+  atom-fails e = steps-on {r′ = backRegs r (r .alternatives)} {used = 1} h (omega arith) (going-back refl S W) (unit-gives left (solving x) threads h [] (atom-unit book F (topsOf r) ws (r .cell) (r .taken) (r .supposed) x S B X k l [] e))
 
   pub atom-enters : (q i : ℕ) (f : Force) (after : List Force) (ws′ : List ℕ) → IsRest book ws (r .made) (r .programs) q i (f ∷ after)
       → candidates (field book (X .g) 1) (field book (X .g) 2) (f ∷ after) ≡ f ∷ candidates (field book (X .g) 1) (field book (X .g) 2) after
@@ -83,4 +67,4 @@ module _ (book : List ℕ) (F : Formed book) (ws : List ℕ) (r : Regs) (left : 
       (going-back refl
       (record { slots = T .slots; fits = T .fits; cells-some = T .cells-some; programs-some = T .programs-some; cells-most = T .cells-most; programs-most = T .programs-most; alternatives-most = omega arith; small = T .small })
       (atom-waiting book F (topsOf r) ws (r .cell) (r .taken) (r .supposed) x S B X k l q i f after a b W))
-      (gives _ (atom-unit book F (topsOf r) ws (r .cell) (r .taken) (r .supposed) x S B X k l _ c)))
+      (unit-gives left (solving x) threads h _ (atom-unit book F (topsOf r) ws (r .cell) (r .taken) (r .supposed) x S B X k l _ c)))

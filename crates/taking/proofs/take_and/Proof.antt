@@ -1,11 +1,11 @@
 use mathlib.Core.Path.{refl, sym, _∙_}
-use Rattle.steps.proofs.TakeRuns.{and-written}
-use Rattle.steps.specs.Takes.{andWords, andRegs}
+use Rattle.taking.proofs.TakeRuns.{and-written}
+use Rattle.taking.specs.Takes.{andWords, andRegs}
 use borrow.Author.Needs.{needs}
-use Rattle.steps.proofs.take_and.Statement.{statement}
-use Rattle.steps.proofs.take_and.Tie as tie
-use Rattle.steps.proofs.take_and.Reads as reads
-use Rattle.steps.proofs.take_and.Lts as lts
+use Rattle.taking.proofs.take_and.Statement.{statement}
+use Rattle.taking.proofs.take_and.Tie as tie
+use Rattle.taking.proofs.take_and.Reads as reads
+use Rattle.taking.proofs.take_and.Lts as lts
 use Rattle.branch.proofs.put_cell.Reads as put-cell-reads
 use Rattle.words.proofs.field.Reads as field-reads
 

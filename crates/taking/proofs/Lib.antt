@@ -1,0 +1,2 @@
+-- Laws of taking a goal.
+pub mod TakeRuns

@@ -1,2 +1,4 @@
 -- Laws of taking a goal.
+pub mod WrittenLaws
+pub mod HandLaws
 pub mod TakeRuns

@@ -1,34 +1,131 @@
 // Taking a goal: one unit of the run.
 ghost use mathlib.Core.Path.{_≡_};
+ghost use mathlib.Core.Bool.{Bool, true, false};
 ghost use Prim.Native.Nat.{_+_, _-_, _*_, _≤_, _<_};
 ghost use lib.ListN.{length, getD, set};
 ghost use Rattle.words.specs.Readable.{Readable};
-ghost use Rattle.book.specs.Records.{field as bookField, records};
-ghost use Rattle.taking.specs.Takes.{andWords, andRegs};
+ghost use Rattle.branch.specs.State.{flag};
+ghost use Rattle.taking.specs.Takes.{cellOf, Room, inHand, andWords, andRegs, orWords, orRegs, putProgram, supposeWords, supposeRegs};
+use branch::Back;
 use steps::Regs;
 
-// Takes an and goal: record g at base b with program p, the rest of the list from cell q.
-pub fn take_and(book: &[u8], ws: &mut [u32], r: Regs, g: u32, b: u32, p: u32, q: u32) -> Regs
-    requires { ⌜ Readable (now book) ⌝ }
-    requires { ⌜ (g < records (now book)) × (bookField (now book) g 1 < 4096) × (bookField (now book) g 2 < 4096) ⌝ }
-    requires { ⌜ (b < 4096) × (p < 4096) × (q < 4096) × (r .cells + 1 < 1026) × (r .taken < 512) × (length (now ws) ≡ 16384) ⌝ }
-    ensures { λ x. ⌜ now (ws .exit) ≡ andWords (now (book .entry)) r g b p q (now (ws .entry)) ⌝ }
-    ensures { λ x. ⌜ x ≡ andRegs r ⌝ }
+// A goal cell: the goal's record and base, its program, and the next cell.
+pub struct Cell {
+    pub goal: u32,
+    pub base: u32,
+    pub program: u32,
+    pub next: u32,
+}
+
+// Reads goal cell c.
+fn read_cell(ws: &[u32], c: u32) -> Cell
+    requires { ⌜ (c < 1026) × (length (now ws) ≡ 16384) × (4096 ≤ getD (now ws) (6144 + 2 * c) 0) ⌝ }
+    ensures { λ x. ⌜ x ≡ cellOf (now (ws .entry)) c ⌝ }
 {
-    let left = words::field(book, g, 1);
-    let right = words::field(book, g, 2);
-    let cells = r.cells;
-    branch::put_cell(ws, cells, 4096 * (right + 1) + b, p, q);
-    branch::put_cell(ws, cells + 1, 4096 * (left + 1) + b, p, cells);
+    let at = (6144 + 2 * c) as usize;
+    let w = ws[at];
+    let v = ws[at + 1];
+    Cell {
+        goal: w / 4096 - 1,
+        base: w % 4096,
+        program: v / 4096,
+        next: v % 4096,
+    }
+}
+
+// The registers with a branch in hand whose first goal is in `cell`, the newest.
+fn in_hand(r: Regs, cell: u32, programs: u32, alternatives: u32, supposed: bool) -> Regs
+    requires { ⌜ (cell < 1026) × (r .taken < 512) ⌝ }
+    ensures { λ x. ⌜ x ≡ inHand r cell programs alternatives supposed ⌝ }
+{
     Regs {
         made: r.made,
         trail: r.trail,
-        cells: cells + 2,
-        programs: r.programs,
-        alternatives: r.alternatives,
-        cell: cells + 1,
+        cells: cell + 1,
+        programs: programs,
+        alternatives: alternatives,
+        cell: cell,
         taken: r.taken + 1,
-        supposed: r.supposed,
+        supposed: supposed,
         solving: true,
     }
+}
+
+// Takes an and goal: the right goal, then before it the left one.
+fn take_and(book: &[u8], ws: &mut [u32], r: Regs, x: Cell) -> Regs
+    requires { ⌜ Readable (now book) ⌝ }
+    requires { ⌜ Room (now book) (now ws) r x ⌝ }
+    ensures { λ y. ⌜ now (ws .exit) ≡ andWords (now (book .entry)) r x (now (ws .entry)) ⌝ }
+    ensures { λ y. ⌜ y ≡ andRegs r ⌝ }
+{
+    let left = words::field(book, x.goal, 1);
+    let right = words::field(book, x.goal, 2);
+    let cells = r.cells;
+    branch::put_cell(ws, cells, 4096 * (right + 1) + x.base, x.program, x.next);
+    branch::put_cell(ws, cells + 1, 4096 * (left + 1) + x.base, x.program, cells);
+    in_hand(r, cells + 1, r.programs, r.alternatives, r.supposed)
+}
+
+// 1 if a suppose goal was taken, as it is kept with an alternative.
+fn flag_of(supposed: bool) -> u32
+    ensures { λ x. ⌜ x ≡ flag supposed ⌝ }
+{
+    if supposed {
+        return 1;
+    }
+    0
+}
+
+// Takes an or goal: the right goal is put and kept as an alternative, then the left one is put.
+fn take_or(book: &[u8], ws: &mut [u32], r: Regs, x: Cell) -> Regs
+    requires { ⌜ Readable (now book) ⌝ }
+    requires { ⌜ Room (now book) (now ws) r x ⌝ }
+    ensures { λ y. ⌜ now (ws .exit) ≡ orWords (now (book .entry)) r x (now (ws .entry)) ⌝ }
+    ensures { λ y. ⌜ y ≡ orRegs r ⌝ }
+{
+    let left = words::field(book, x.goal, 1);
+    let right = words::field(book, x.goal, 2);
+    let cells = r.cells;
+    let kept = Back {
+        made: r.made,
+        trail: r.trail,
+        cells: cells + 1,
+        programs: r.programs,
+        cell: cells,
+        taken: r.taken + 1,
+        supposed: flag_of(r.supposed),
+        atom: 0,
+        call: 0,
+        node: 0,
+        index: 0,
+    };
+    branch::put_cell(ws, cells, 4096 * (right + 1) + x.base, x.program, x.next);
+    branch::keep(ws, r.alternatives, kept);
+    branch::put_cell(ws, cells + 1, 4096 * (left + 1) + x.base, x.program, x.next);
+    in_hand(r, cells + 1, r.programs, r.alternatives + 1, r.supposed)
+}
+
+// Writes program p: a suppose goal's word, and the program before which its clauses are put.
+fn put_program(ws: &mut [u32], p: u32, w: u32, q: u32)
+    requires { ⌜ (p < 514) × (length (now ws) ≡ 16384) ⌝ }
+    ensures { λ x. ⌜ now (ws .exit) ≡ putProgram p w q (now (ws .entry)) ⌝ }
+{
+    let at = (8200 + 2 * p) as usize;
+    ws[at] = w;
+    ws[at + 1] = q;
+}
+
+// Takes a suppose goal: its clauses are put before the program, and its goal has the new program.
+fn take_suppose(book: &[u8], ws: &mut [u32], r: Regs, x: Cell) -> Regs
+    requires { ⌜ Readable (now book) ⌝ }
+    requires { ⌜ Room (now book) (now ws) r x ⌝ }
+    ensures { λ y. ⌜ now (ws .exit) ≡ supposeWords (now (book .entry)) r x (now (ws .entry)) ⌝ }
+    ensures { λ y. ⌜ y ≡ supposeRegs r ⌝ }
+{
+    let goal = words::field(book, x.goal, 3);
+    let cells = r.cells;
+    let program = r.programs;
+    put_program(ws, program, 4096 * (x.goal + 1) + x.base, x.program);
+    branch::put_cell(ws, cells, 4096 * (goal + 1) + x.base, program, x.next);
+    in_hand(r, cells, program + 1, r.alternatives, true)
 }

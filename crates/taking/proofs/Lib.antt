@@ -2,3 +2,4 @@
 pub mod WrittenLaws
 pub mod HandLaws
 pub mod TakeRuns
+pub mod AtomRuns

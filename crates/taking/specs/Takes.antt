@@ -5,11 +5,13 @@ use mathlib.Core.List.{List}
 use Prim.Native.Nat.{ℕ, _+_, _-_, _*_, _/_, _%_, _≤_, _<_}
 use lib.ListN.{length, getD, set}
 use Rattle.book.specs.Records.{field, records}
+use Rattle.machine.specs.Machine.{Force}
 use Rattle.words.specs.Words.{termWord}
 use Rattle.branch.specs.declared.Back.{Back}
 use Rattle.branch.specs.declared.Candidate.{Candidate}
 use Rattle.branch.specs.declared.Candidate.the-variants.{At, Nothing}
-use Rattle.branch.specs.State.{putCell, flag}
+use Rattle.branch.specs.State.{IsProgram, putCell, flag}
+use Rattle.branch.specs.Seeking.{Sought}
 use Rattle.branch.specs.Alternatives.{keepWords}
 use Rattle.steps.specs.declared.Regs.{Regs}
 use Rattle.taking.specs.declared.Cell.{Cell}
@@ -91,3 +93,34 @@ supposeWords book r x ws =
 
 unfoldable pub supposeRegs : Regs → Regs
 supposeRegs r = inHand r (r .cells) (r .programs + 1) (r .alternatives) true
+
+-- Atom: the first candidate is kept as an alternative, to which the next step goes back; with none, go back.
+unfoldable pub atomKept : Regs → Cell → ℕ → ℕ → Back
+atomKept r x q i = record {
+  made = r .made;
+  trail = r .trail;
+  cells = r .cells;
+  programs = r .programs;
+  cell = x .next;
+  taken = r .taken + 1;
+  supposed = flag (r .supposed);
+  atom = termWord (x .goal) (x .base);
+  call = x .program;
+  node = q;
+  index = i;
+}
+
+unfoldable pub atomWords : Regs → Cell → Candidate → List ℕ → List ℕ
+atomWords r x (At q i) ws = keepWords ws (r .alternatives) (atomKept r x q i)
+atomWords r x Nothing ws = ws
+
+unfoldable pub atomRegs : Regs → Candidate → Regs
+atomRegs r (At q i) = backRegs r (r .alternatives + 1)
+atomRegs r Nothing = backRegs r (r .alternatives)
+
+pub record AtomTaken (book ws ws′ : List ℕ) (r : Regs) (x : Cell) (y : Regs) : Type 0 where
+  pub candidate : Candidate
+  pub found : (program : List Force) → IsProgram book ws (r .made) (r .programs) (x .program) program
+      → Sought book ws (r .made) (r .programs) (field book (x .goal) 1) (field book (x .goal) 2) program candidate
+  pub words : ws′ ≡ atomWords r x candidate ws
+  pub regs : y ≡ atomRegs r candidate

@@ -4,9 +4,13 @@ ghost use mathlib.Core.Bool.{Bool, true, false};
 ghost use Prim.Native.Nat.{_+_, _-_, _*_, _≤_, _<_};
 ghost use lib.ListN.{length, getD, set};
 ghost use Rattle.words.specs.Readable.{Readable};
+ghost use Rattle.book.proofs.Accepted.{Formed};
 ghost use Rattle.branch.specs.State.{flag};
-ghost use Rattle.taking.specs.Takes.{cellOf, Room, inHand, andWords, andRegs, orWords, orRegs, putProgram, supposeWords, supposeRegs};
+ghost use Rattle.branch.specs.Alternatives.{keepWords};
+ghost use Rattle.branch.specs.Seeking.{OwnReady, Standing};
+ghost use Rattle.taking.specs.Takes.{cellOf, Room, inHand, backRegs, andWords, andRegs, orWords, orRegs, putProgram, supposeWords, supposeRegs, atomKept, AtomTaken};
 use branch::Back;
+use branch::Candidate;
 use steps::Regs;
 
 // A goal cell: the goal's record and base, its program, and the next cell.
@@ -128,4 +132,65 @@ fn take_suppose(book: &[u8], ws: &mut [u32], r: Regs, x: Cell) -> Regs
     put_program(ws, program, 4096 * (x.goal + 1) + x.base, x.program);
     branch::put_cell(ws, cells, 4096 * (goal + 1) + x.base, program, x.next);
     in_hand(r, cells, program + 1, r.alternatives, true)
+}
+
+// The registers for going back, with n alternatives.
+fn to_back(r: Regs, n: u32) -> Regs
+    ensures { λ x. ⌜ x ≡ backRegs r n ⌝ }
+{
+    Regs {
+        made: r.made,
+        trail: r.trail,
+        cells: r.cells,
+        programs: r.programs,
+        alternatives: n,
+        cell: 0,
+        taken: 0,
+        supposed: false,
+        solving: false,
+    }
+}
+
+// Keeps the candidate that is clause i of program q, for the atom of cell x.
+fn keep_atom(book: &[u8], ws: &mut [u32], r: Regs, x: Cell, q: u32, i: u32)
+    requires { ⌜ Room (now book) (now ws) r x ⌝ }
+    requires { ⌜ q < 4096 ⌝ }
+    ensures { λ y. ⌜ now (ws .exit) ≡ keepWords (now (ws .entry)) (r .alternatives) (atomKept r x q i) ⌝ }
+{
+    let kept = Back {
+        made: r.made,
+        trail: r.trail,
+        cells: r.cells,
+        programs: r.programs,
+        cell: x.next,
+        taken: r.taken + 1,
+        supposed: flag_of(r.supposed),
+        atom: 4096 * (x.goal + 1) + x.base,
+        call: x.program,
+        node: q,
+        index: i,
+    };
+    branch::keep(ws, r.alternatives, kept);
+}
+
+// Takes an atom: its first candidate is kept, to which the next step goes back.
+fn take_atom(book: &[u8], ws: &mut [u32], r: Regs, x: Cell) -> Regs
+    requires { ⌜ Readable (now book) ⌝ }
+    requires { ⌜ Formed (now book) × OwnReady (now book) 0 ⌝ }
+    requires { ⌜ Standing (now book) (now ws) (r .made) (r .programs) (x .program) 0 ⌝ }
+    requires { ⌜ Room (now book) (now ws) r x ⌝ }
+    ensures { λ y. ⌜ AtomTaken (now (book .entry)) (now (ws .entry)) (now (ws .exit)) r x y ⌝ }
+{
+    let f = words::field(book, x.goal, 1);
+    let m = words::field(book, x.goal, 2);
+    let found = branch::seek(book, r.made, ws, r.programs, x.program, 0, f, m);
+    match found {
+        Candidate::At(q, i) => {
+            keep_atom(book, ws, r, x, q, i);
+            return to_back(r, r.alternatives + 1);
+        }
+        Candidate::Nothing => {
+            return to_back(r, r.alternatives);
+        }
+    }
 }

@@ -1,10 +1,9 @@
 -- Taking an atom: the search for its first candidate, and what is kept.
-use mathlib.Core.Path.{_≡_, refl, sym, _∙_, ap}
-use mathlib.Core.Bool.{Bool, true, false}
-use mathlib.Core.List.{List, [], _∷_, _++_}
-use Prim.Native.Nat.{ℕ, zero, suc, _+_, _-_, _*_, _≤_, _<_}
+use mathlib.Core.Path.{_≡_, refl}
+use mathlib.Core.List.{List, [], _∷_}
+use Prim.Native.Nat.{ℕ, _+_, _-_, _<_}
 use native.Mathlib.Omega.{arith}
-use Rattle.book.specs.Records.{field, records}
+use Rattle.book.specs.Records.{field}
 use Rattle.book.specs.Kinds.{kindAt, atomKind}
 use Rattle.book.proofs.Accepted.{Formed}
 use Rattle.machine.specs.Machine.{Thread, solving, Branch, Force, candidates, tryAll}

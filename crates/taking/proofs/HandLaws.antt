@@ -1,12 +1,12 @@
 -- A branch in hand with its alternatives, and what stays of it when goals, programs and alternatives are put above the tops.
-use mathlib.Core.Path.{_≡_, refl, sym, _∙_, ap}
+use mathlib.Core.Path.{_≡_, refl, _∙_}
 use mathlib.Core.Logic.{_⊎_, inl, inr}
-use mathlib.Core.Bool.{Bool, true, false}
-use mathlib.Core.List.{List, [], _∷_}
-use Prim.Native.Nat.{ℕ, zero, suc, _+_, _-_, _*_, _≤_, _<_}
+use mathlib.Core.Bool.{Bool}
+use mathlib.Core.List.{List, _∷_}
+use Prim.Native.Nat.{ℕ, _+_, _-_, _*_, _≤_, _<_}
 use native.Mathlib.Omega.{arith}
 use native.Mathlib.Nat.{add-zero, sub-zero}
-use lib.ListN.{length, getD, set, length-set}
+use lib.ListN.{length, set, length-set}
 use lib.Seq.{getD-set-same, getD-set-other}
 use Rattle.book.specs.Records.{field}
 use Rattle.book.specs.Kinds.{kindAt, supposeKind}
@@ -14,10 +14,10 @@ use Rattle.book.specs.Decode.{goalOf, clausesOf}
 use Rattle.machine.specs.Machine.{Force, Todo, Branch, Thread, solving, added, todo}
 use Rattle.words.specs.Words.{termWord}
 use Rattle.words.specs.Frame.{Keeps}
-use Rattle.words.proofs.StackLaws.{keeps-trans, keeps-set, store-same}
+use Rattle.words.proofs.StackLaws.{keeps-trans, keeps-set}
 use Rattle.words.proofs.FrameLaws.{fits-most}
 use Rattle.branch.specs.declared.Back.{Back}
-use Rattle.branch.specs.State.{restOf, runOfSuppose, Tops, GoalHere, IsRest, IsRest.put-rest, IsProgram, IsGoals, IsBranch, Sound, Alternative.other-goal, Waiting, Agree, putCell, flag}
+use Rattle.branch.specs.State.{restOf, runOfSuppose, Tops, GoalHere, IsRest.put-rest, IsProgram, IsBranch, Sound, Alternative.other-goal, Waiting, Agree, putCell, flag}
 use Rattle.branch.specs.Alternatives.{keepWords}
 use Rattle.branch.proofs.StateLaws.{rest-agree, rest-more, goals-more, goals-push, branch-agree, sound-agree, waiting-agree, waiting-raised, waiting-push}
 use Rattle.branch.proofs.TakeLaws.{cell-agree, cell-word}

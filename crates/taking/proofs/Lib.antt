@@ -3,3 +3,4 @@ pub mod WrittenLaws
 pub mod HandLaws
 pub mod TakeRuns
 pub mod AtomRuns
+pub mod TakingLaws

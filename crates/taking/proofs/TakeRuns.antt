@@ -1,11 +1,11 @@
 -- Taking a goal, as the machine says it: for each kind of goal, what the code writes stands for what the unit gives.
-use mathlib.Core.Path.{_≡_, refl, sym, _∙_, ap}
-use mathlib.Core.Bool.{Bool, true, false}
+use mathlib.Core.Path.{_≡_, refl, _∙_, ap}
+use mathlib.Core.Bool.{Bool, true}
 use mathlib.Core.List.{List, [], _∷_, _++_}
-use Prim.Native.Nat.{ℕ, zero, suc, _+_, _-_, _*_, _≤_, _<_}
+use Prim.Native.Nat.{ℕ, suc, _+_, _-_, _*_, _≤_, _<_}
 use native.Mathlib.Omega.{arith}
 use borrow.Author.Tests.{le-ltb}
-use Rattle.book.specs.Records.{field, records}
+use Rattle.book.specs.Records.{field}
 use Rattle.book.specs.Kinds.{kindAt, andKind, orKind, supposeKind}
 use Rattle.book.specs.Tree.{Goal}
 use Rattle.book.specs.Scoped.{ScopedGoal, ScopedClauses}
@@ -15,16 +15,13 @@ use Rattle.book.proofs.Pointers.{or-goals, suppose-goal}
 use Rattle.book.proofs.Unfolding.{goal-and, goal-or, goal-suppose}
 use Rattle.machine.specs.declared.Limit.the-variants.{Goals}
 use Rattle.machine.specs.declared.Ending.the-variants.{Stopped}
-use Rattle.machine.specs.declared.Tally.{Tally}
-use Rattle.machine.specs.Machine.{Thread, solving, Branch, Force, Todo, Moved, on, stop, advance, solve, taking, took, tookSuppose, todo, added}
-use Rattle.machine.specs.Answers.{Line}
-use Rattle.machine.specs.Run.{Request}
-use Rattle.branch.specs.State.{GoalHere, IsBranch}
+use Rattle.machine.specs.Machine.{Thread, solving, Branch, on, stop, advance, solve, taking, took, tookSuppose, todo}
+use Rattle.branch.specs.State.{GoalHere}
 use Rattle.branch.proofs.StateLaws.{rest-agree}
 use Rattle.branch.proofs.TakeLaws.{CellAt, goal-unit, and-left, and-right}
 use Rattle.steps.specs.declared.Regs.{Regs}
 use Rattle.steps.specs.declared.Stepped.the-variants.{Onward, Finished}
-use Rattle.steps.specs.Search.{runOn, spentUnits, topsOf, Stands, Stands.in-hand, StepGives, StepGives.steps-on, StepGives.steps-end}
+use Rattle.steps.specs.Search.{runOn, spentUnits, topsOf, Stands.in-hand, StepGives, StepGives.steps-on, StepGives.steps-end}
 use Rattle.steps.proofs.RunLaws.{unit-gives, unit-stop}
 use Rattle.taking.specs.declared.Cell.{Cell}
 use Rattle.taking.specs.Takes.{inHand, andWords, andRegs, orKept, orWords, orRegs, supposeWords, supposeRegs}

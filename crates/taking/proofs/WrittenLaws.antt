@@ -4,7 +4,6 @@ use mathlib.Core.List.{List}
 use Prim.Native.Nat.{ℕ, _+_, _*_}
 use Rattle.book.specs.Records.{field}
 use Rattle.words.specs.Words.{termWord}
-use Rattle.branch.specs.declared.Back.{Back}
 use Rattle.branch.specs.State.{putCell, flag}
 use Rattle.branch.specs.Alternatives.{keepWords}
 use Rattle.steps.specs.declared.Regs.{Regs}

@@ -1,17 +1,23 @@
 // Taking a goal: one unit of the run.
 ghost use mathlib.Core.Path.{_≡_};
-ghost use mathlib.Core.Bool.{Bool, true, false};
+ghost use mathlib.Core.Bool.{true, false};
 ghost use Prim.Native.Nat.{_+_, _-_, _*_, _≤_, _<_};
-ghost use lib.ListN.{length, getD, set};
+ghost use lib.ListN.{length, getD};
 ghost use Rattle.words.specs.Readable.{Readable};
 ghost use Rattle.book.proofs.Accepted.{Formed};
 ghost use Rattle.branch.specs.State.{flag};
 ghost use Rattle.branch.specs.Alternatives.{keepWords};
 ghost use Rattle.branch.specs.Seeking.{OwnReady, Standing};
+ghost use Rattle.machine.specs.Machine.{Thread};
+ghost use mathlib.Core.List.{List};
+ghost use Rattle.steps.specs.Search.{Stands, StepContract};
 ghost use Rattle.taking.specs.Takes.{cellOf, Room, inHand, backRegs, andWords, andRegs, orWords, orRegs, putProgram, supposeWords, supposeRegs, atomKept, AtomTaken};
 use branch::Back;
 use branch::Candidate;
+use machine::Ending;
+use machine::Limit;
 use steps::Regs;
+use steps::Stepped;
 
 // A goal cell: the goal's record and base, its program, and the next cell.
 pub struct Cell {
@@ -193,4 +199,33 @@ fn take_atom(book: &[u8], ws: &mut [u32], r: Regs, x: Cell) -> Regs
             return to_back(r, r.alternatives);
         }
     }
+}
+
+// Takes the first goal of the branch in hand.
+pub fn take(book: &[u8], ws: &mut [u32], r: Regs, left: u32) -> Stepped
+    requires { ⌜ Readable (now book) ⌝ }
+    requires { ⌜ Formed (now book) × OwnReady (now book) 0 ⌝ }
+    requires { ⌜ (r .solving ≡ true) × (0 < r .cell) × (0 < left) ⌝ }
+    requires { ⌜ ((threads : List Thread) × Stands (now book) (now ws) r threads) ⌝ }
+    ensures { λ o. ⌜ StepContract (now (book .entry)) (now (ws .entry)) (now (ws .exit)) r left o ⌝ }
+{
+    if 512 <= r.taken {
+        return Stepped::Finished(Ending::Stopped(Limit::Goals), 0);
+    }
+    let x = read_cell(ws, r.cell);
+    let kind = words::field(book, x.goal, 0);
+    if kind == 4 {
+        let y = take_atom(book, ws, r, x);
+        return Stepped::Onward(y, 1);
+    }
+    if kind == 5 {
+        let y = take_and(book, ws, r, x);
+        return Stepped::Onward(y, 1);
+    }
+    if kind == 6 {
+        let y = take_or(book, ws, r, x);
+        return Stepped::Onward(y, 1);
+    }
+    let y = take_suppose(book, ws, r, x);
+    Stepped::Onward(y, 1)
 }

@@ -3,6 +3,7 @@ use mathlib.Core.Path.{_≡_, refl, sym, _∙_, ap}
 use mathlib.Core.List.{List, [], _∷_}
 use Prim.Native.Nat.{ℕ, zero, suc, _+_, _-_, _*_, _≤_, _<_}
 use native.Mathlib.Omega.{arith}
+use native.Mathlib.Nat.{le-trans}
 use native.Mathlib.Decide.{decLt}
 use lib.ListN.{length, getD}
 use Rattle.book.specs.Records.{field}
@@ -39,6 +40,7 @@ module _ (book : List ℕ) (t : Tops) (ws ws′ : List ℕ) (a e c o left : ℕ)
   mid-sound = record {
     slots = E .ready .slots;
     fits = E .ready .fits;
+    unknowns = le-trans (S .unknowns) (omega arith);
     cells-some = S .cells-some;
     programs-some = S .programs-some;
     cells-most = S .cells-most;
@@ -55,6 +57,7 @@ module _ (book : List ℕ) (t : Tops) (ws ws′ : List ℕ) (a e c o left : ℕ)
   enters-sound = record {
     slots = E .ends .pairs .slots;
     fits = E .ends .pairs .fits;
+    unknowns = le-trans (S .unknowns) (omega arith);
     cells-some = S .cells-some;
     programs-some = S .programs-some;
     cells-most = S .cells-most;

@@ -7,7 +7,7 @@ use native.Mathlib.Omega.{arith}
 use Rattle.book.specs.Records.{field, records}
 use Rattle.book.specs.Kinds.{kindAt, andKind, atomKind}
 use Rattle.words.proofs.FrameLaws.{fits-most}
-use Rattle.branch.specs.State.{IsRest}
+use Rattle.branch.specs.State.{IsClause}
 use Rattle.branch.specs.Alternatives.{keepWords}
 use Rattle.branch.proofs.StateLaws.{sound-agree}
 use mathlib.Core.Logic.{inl}
@@ -70,7 +70,7 @@ module _ (book : List ℕ) (F : Formed book) (ws : List ℕ) (r : Regs) (left : 
   unfolding backRegs tryAll
   atom-fails e = steps-on {r′ = backRegs r (r .alternatives)} {used = 1} h (omega arith) (keeps-refl 13568 15616 ws) (going-back refl S W) (gives [] (atom-unit book F (topsOf r) ws (r .cell) (r .taken) (r .supposed) x S B X k l [] e))
 
-  pub atom-enters : (q i : ℕ) (f : Force) (after : List Force) (ws′ : List ℕ) → IsRest book ws (r .made) (r .programs) q i (f ∷ after)
+  pub atom-enters : (q i : ℕ) (f : Force) (after : List Force) (ws′ : List ℕ) → IsClause book ws (r .made) (r .programs) q i f after
       → candidates (field book (X .g) 1) (field book (X .g) 2) (f ∷ after) ≡ f ∷ candidates (field book (X .g) 1) (field book (X .g) 2) after
       → candidates (field book (X .g) 1) (field book (X .g) 2) (X .program) ≡ f ∷ candidates (field book (X .g) 1) (field book (X .g) 2) after
       → ws′ ≡ keepWords ws (r .alternatives) (atomKept book F (topsOf r) ws (r .cell) (r .taken) (r .supposed) x S B X k l q i)
@@ -84,6 +84,6 @@ module _ (book : List ℕ) (F : Formed book) (ws : List ℕ) (r : Regs) (left : 
       rw e
       (steps-on {r′ = backRegs r (suc (r .alternatives))} {used = 1} h (omega arith) (kept-outside ws (r .alternatives) _ n (S .slots .size) 13568 15616 (inl (omega arith)))
       (going-back refl
-      (record { slots = T .slots; fits = T .fits; cells-some = T .cells-some; programs-some = T .programs-some; cells-most = T .cells-most; programs-most = T .programs-most; alternatives-most = omega arith; small = T .small })
+      (record { slots = T .slots; fits = T .fits; unknowns = T .unknowns; cells-some = T .cells-some; programs-some = T .programs-some; cells-most = T .cells-most; programs-most = T .programs-most; alternatives-most = omega arith; small = T .small })
       (atom-waiting book F (topsOf r) ws (r .cell) (r .taken) (r .supposed) x S B X k l q i f after a b W))
       (gives _ (atom-unit book F (topsOf r) ws (r .cell) (r .taken) (r .supposed) x S B X k l _ c)))

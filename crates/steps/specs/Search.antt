@@ -44,9 +44,10 @@ phase true = 0
 phase false = 1
 
 -- WHAT ONE STEP OF THE CODE GIVES, with `left` units of the budget: it goes on, with so many units; or the run has ended.
--- A step takes a goal, or goes back and, if the alternative is a clause, enters it and unifies. The words from 13568 to 15615, of the answer writer, stay.
+-- A step takes a goal, or goes back and, if the alternative is a clause, enters it and unifies. It leaves alone the words in which an answer's variables are numbered.
 pub data StepGives (book ws ws′ : List ℕ) (r : Regs) (left : ℕ) (threads : List Thread) : Stepped → Type 0 where
-  steps-on : {r′ : Regs} {used : ℕ} {threads′ : List Thread} → used ≤ left → phase (r′ .solving) < 2 * used + phase (r .solving) → Keeps 13568 15616 ws ws′ → Stands book ws′ r′ threads′
+  steps-on : {r′ : Regs} {used : ℕ} {threads′ : List Thread} → used ≤ left → phase (r′ .solving) < 2 * used + phase (r .solving) → Keeps 13568 15616 ws ws′
+      → Stands book ws′ r′ threads′
       → ((q : Request) (y : Tally) (ls : List Line) → runOn q left y ls threads ≡ runOn q (left - used) (spentUnits used y) ls threads′)
       → StepGives book ws ws′ r left threads (Onward r′ used)
   steps-end : {e : Ending} {used : ℕ} → used ≤ left → length ws′ ≡ length ws

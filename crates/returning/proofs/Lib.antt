@@ -1,0 +1,5 @@
+-- Laws of going back.
+pub mod PlaceLaws
+pub mod BodyLaws
+pub mod OutcomeLaws
+pub mod RenewLaws

@@ -67,12 +67,17 @@ module _ (book : List ℕ) (ws : List ℕ) (k : ℕ) (x : Back) (threads : List 
   pub kept-below : k < 512
   kept-below = omega (arith, X .again .few, X .with .most)
 
+  -- the place after the candidate that is tried
+  pub standing : IsRest book ws (x .made) (x .programs) (x .node) (x .index + 1) (X .after)
+  standing = let z : suc (x .index) ≡ x .index + 1 = omega arith in rw (← z) (X .with .clause .1)
+
   -- the numbers that are kept are small
-  pub keep-ready : (q : ℕ) {after : List Force} {i : ℕ} → IsRest book ws (x .made) (x .programs) q i after → (k < 512) × (length ws ≡ 16384)
-      × ((x .made < 4096) × (x .trail < 4096) × (x .cells < 4096) × (x .programs < 4096) × (x .cell < 4096) × (x .taken < 4096) × (x .call < 4096) × (q < 4096))
-  keep-ready q r = (
-    kept-below,
-    S .slots .size,
+  abbrev Small : ℕ → Type 0
+  Small q = ((k < 512) × (length ws ≡ 16384)) × ((x .made < 4096) × (x .trail < 4096) × (x .cells < 4096) × (x .programs < 4096) × (x .cell < 4096) × (x .taken < 4096) × (x .call < 4096) × (q < 4096))
+
+  keep-small : (q : ℕ) {after : List Force} {i : ℕ} → IsRest book ws (x .made) (x .programs) q i after → Small q
+  keep-small q r = (
+    (kept-below, S .slots .size),
     (
       omega (arith, S .slots .room),
       omega (arith, trail-room),
@@ -126,3 +131,33 @@ module _ (book : List ℕ) (ws : List ℕ) (k : ℕ) (x : Back) (threads : List 
           most = omega arith;
           waiting = rw (d, ← z) W;
         }
+
+  -- WHAT THE SEARCH SAYS
+  module _ (a f m : ℕ) (ae : a ≡ x .atom / 4096 - 1) (fe : f ≡ field book a 1) (me : m ≡ field book a 2) where
+    abbrev Says : Candidate → Type 0
+    Says o = (rest : List Force) → IsRest book ws (x .made) (x .programs) (x .node) (x .index + 1) rest → Sought book ws (x .made) (x .programs) f m rest o
+
+    here : (o : Candidate) → Says o → Sought book ws (x .made) (x .programs) (field book (X .a) 1) (field book (X .a) 2) (X .after) o
+    here o s =
+        let z : a ≡ X .a = ae ∙ atom-record in
+        let y : f ≡ field book (X .a) 1 = fe ∙ ap (λ (r : ℕ). field book r 1) z in
+        let w : m ≡ field book (X .a) 2 = me ∙ ap (λ (r : ℕ). field book r 2) z in
+        rw (← y, ← w) (s (X .after) standing)
+
+    pub keep-ready : (o : Candidate) (q i : ℕ) → Says o → o ≡ At q i → Small q
+    keep-ready o q i s e = go (rw e at (here o s))
+      where
+        go : Sought book ws (x .made) (x .programs) (field book (X .a) 1) (field book (X .a) 2) (X .after) (At q i) → Small q
+        go (sought r y z) = keep-small q (r .0)
+
+    pub renewed : (o : Candidate) (q i : ℕ) (ws′ : List ℕ) → Says o → o ≡ At q i → ws′ ≡ keepWords ws k (moved x q i) → Renewed book ws ws′ k x threads X (k + 1)
+    renewed o q i ws′ s e d = rw d (go (rw e at (here o s)))
+      where
+        go : Sought book ws (x .made) (x .programs) (field book (X .a) 1) (field book (X .a) 2) (X .after) (At q i) → Renewed book ws (keepWords ws k (moved x q i)) k x threads X (k + 1)
+        go (sought {c = c} {after = after} r y z) = renew-keeps q i c after r y z
+
+    pub dropped : (o : Candidate) → Says o → o ≡ Nothing → Renewed book ws ws k x threads X k
+    dropped o s e = go (rw e at (here o s))
+      where
+        go : Sought book ws (x .made) (x .programs) (field book (X .a) 1) (field book (X .a) 2) (X .after) Nothing → Renewed book ws ws k x threads X k
+        go (no-more z) = renew-drops z

@@ -3,3 +3,5 @@ pub mod PlaceLaws
 pub mod BodyLaws
 pub mod OutcomeLaws
 pub mod RenewLaws
+pub mod CandidateLaws
+pub mod BodyGoals

@@ -61,7 +61,7 @@ module _ (book : List ℕ) (R : Readable book) (A : Accepted book) (ws : List �
   madeNow = x .made + field book c 1
 
   -- renewing the alternative left the rest alone
-  agree-renewed : Agree (topsAt x k) ws ws₁
+  pub agree-renewed : Agree (topsAt x k) ws ws₁
   agree-renewed = record {
     slots = keeps-narrow (omega arith) (omega (arith, S .slots .room)) (N .below);
     trail = keeps-narrow (omega arith) (omega (arith, trail-room book ws k x threads X)) (N .below);
@@ -95,7 +95,7 @@ module _ (book : List ℕ) (R : Readable book) (A : Accepted book) (ws : List �
   program-renewed : IsRest book ws₁ madeNow (x .programs) (x .call) 0 (X .program)
   program-renewed = rest-more (omega arith) (omega arith) (rest-agree agree-renewed (omega arith) (X .with .program-is))
 
-  abbrev goalsNow : List Todo
+  abbrev pub goalsNow : List Todo
   goalsNow = withBodyOf (bodyOf (clauseOf book c)) (x .made) (X .program) (X .b .goals)
 
   body-is : bodyOf (clauseOf book c) ≡ bodyBy (goalOf book) (field book c 5) (field book c 6)

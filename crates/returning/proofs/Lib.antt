@@ -5,3 +5,4 @@ pub mod OutcomeLaws
 pub mod RenewLaws
 pub mod CandidateLaws
 pub mod BodyGoals
+pub mod TryLaws

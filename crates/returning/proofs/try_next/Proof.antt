@@ -1,0 +1,81 @@
+use borrow.Author.Needs.{needs}
+use Rattle.returning.proofs.try_next.Statement.{statement}
+use Rattle.returning.proofs.try_next.Tie as tie
+use Rattle.returning.proofs.try_next.Reads as reads
+use Rattle.returning.proofs.try_next.Lts as lts
+use Rattle.returning.proofs.outcome.Reads as outcome-reads
+use Rattle.returning.proofs.place.Reads as place-reads
+use Rattle.returning.proofs.put_body.Reads as put-body-reads
+use Rattle.returning.proofs.renew.Reads as renew-reads
+use Rattle.steps.proofs.enter.Reads as enter-reads
+use Rattle.words.proofs.field.Reads as field-reads
+
+-- src/lib.rt:166:9
+place-requires : tie.Need-place-requires
+place-requires c κs = search needs
+
+-- src/lib.rt:167:25
+field-requires : tie.Need-field-requires
+field-requires c κs = ?
+
+-- src/lib.rt:167:16
+add-made : tie.Need-add-made
+add-made c = search needs
+
+-- src/lib.rt:169:9
+same-length : tie.Need-same-length
+same-length c = search needs
+
+-- src/lib.rt:169:9
+returns : tie.Need-returns
+returns c = ?
+
+-- src/lib.rt:171:9
+renew-requires : tie.Need-renew-requires
+renew-requires c κs = search needs
+
+-- src/lib.rt:172:9
+put-body-requires : tie.Need-put-body-requires
+put-body-requires c κs = ?
+
+-- src/lib.rt:177:9
+sub-enter : tie.Need-sub-enter
+sub-enter c = ?
+
+-- src/lib.rt:182:9
+sub-enter-2 : tie.Need-sub-enter-2
+sub-enter-2 c = ?
+
+-- src/lib.rt:173:9
+enter-requires : tie.Need-enter-requires
+enter-requires c κs = ?
+
+-- src/lib.rt:184:5
+outcome-requires : tie.Need-outcome-requires
+outcome-requires c κs = ?
+
+-- src/lib.rt:159:1
+same-length-2 : tie.Need-same-length-2
+same-length-2 c = search needs
+
+-- src/lib.rt:159:1
+returns-2 : tie.Need-returns-2
+returns-2 c = ?
+
+pub try-next-spec : {M : Type 1} → statement M
+try-next-spec =
+    tie.close
+    (tie.spec
+    place-requires
+    field-requires
+    add-made
+    same-length
+    returns
+    renew-requires
+    put-body-requires
+    sub-enter
+    sub-enter-2
+    enter-requires
+    outcome-requires
+    same-length-2
+    returns-2)

@@ -24,7 +24,7 @@ use Rattle.words.specs.Readable.{Readable}
 use Rattle.words.specs.Good.{Slots}
 use Rattle.words.specs.Frame.{TrailFits}
 use Rattle.branch.specs.declared.Back.{Back}
-use Rattle.branch.specs.Seeking.{headMatches}
+use Rattle.index.specs.Runs.{headMatches}
 use Rattle.branch.proofs.ClauseLaws.{ClauseHere}
 use Rattle.branch.proofs.SeekLaws.{clause-candidate}
 use Rattle.steps.specs.declared.Regs.{Regs}

@@ -22,7 +22,7 @@ use Rattle.words.specs.Frame.{TrailFits}
 use Rattle.words.proofs.ReadLaws.{in-book}
 use Rattle.words.proofs.FromAccepted.{readable}
 use Rattle.branch.specs.State.{GoalHere}
-use Rattle.branch.specs.Seeking.{headMatches}
+use Rattle.index.specs.Runs.{headMatches}
 use Rattle.branch.proofs.FromScoped.{run-of, tie-run}
 use Rattle.steps.specs.Enters.{headOf, EnterReady}
 

@@ -38,15 +38,20 @@ pub data Stands (book ws : List ℕ) (r : Regs) : List Thread → Type 0 where
       → IsBranch book ws (topsOf r) (r .cell) (r .taken) (r .supposed) b → Waiting book ws (topsOf r) threads → Stands book ws r (solving b ∷ threads)
   going-back : {threads : List Thread} → r .solving ≡ false → Sound book ws (topsOf r) → Waiting book ws (topsOf r) threads → Stands book ws r threads
 
+-- what a step leaves alone: the index of the question's own run, and the words in which an answer's variables are numbered
+pub record Leaves (ws ws′ : List ℕ) : Type 0 where
+  pub index : Keeps 4096 6144 ws ws′
+  pub numbers : Keeps 13568 15616 ws ws′
+
 -- 1 while going back, 0 with a branch in hand: a step without a unit can only go from the first to the second, so the search ends
 abbrev pub phase : Bool → ℕ
 phase true = 0
 phase false = 1
 
 -- WHAT ONE STEP OF THE CODE GIVES, with `left` units of the budget: it goes on, with so many units; or the run has ended.
--- A step takes a goal, or goes back and, if the alternative is a clause, enters it and unifies. It leaves alone the words in which an answer's variables are numbered.
+-- A step takes a goal, or goes back and, if the alternative is a clause, enters it and unifies.
 pub data StepGives (book ws ws′ : List ℕ) (r : Regs) (left : ℕ) (threads : List Thread) : Stepped → Type 0 where
-  steps-on : {r′ : Regs} {used : ℕ} {threads′ : List Thread} → used ≤ left → phase (r′ .solving) < 2 * used + phase (r .solving) → Keeps 13568 15616 ws ws′
+  steps-on : {r′ : Regs} {used : ℕ} {threads′ : List Thread} → used ≤ left → phase (r′ .solving) < 2 * used + phase (r .solving) → Leaves ws ws′
       → Stands book ws′ r′ threads′
       → ((q : Request) (y : Tally) (ls : List Line) → runOn q left y ls threads ≡ runOn q (left - used) (spentUnits used y) ls threads′)
       → StepGives book ws ws′ r left threads (Onward r′ used)

@@ -22,6 +22,7 @@ use Rattle.branch.specs.Alternatives.{keepWords}
 use Rattle.branch.proofs.StateLaws.{rest-agree, rest-more, goals-more, goals-push, branch-agree, sound-agree, waiting-agree, waiting-raised, waiting-push}
 use Rattle.branch.proofs.TakeLaws.{cell-agree, cell-word}
 use Rattle.branch.proofs.KeepLaws.{keep-agree, kept-0, kept-1, kept-2, kept-3, kept-4}
+use Rattle.steps.specs.Search.{Leaves}
 use Rattle.taking.specs.Takes.{putProgram}
 
 -- the branch from cell c, with n goals taken, and the alternatives
@@ -49,6 +50,7 @@ module _ {book ws : List ℕ} {t : Tops} {c n : ℕ} {s : Bool} {y : Branch} {th
         sound = record {
           slots = S .slots;
           fits = S .fits;
+          unknowns = S .unknowns;
           cells-some = omega (arith, S .cells-some);
           programs-some = omega (arith, S .programs-some);
           cells-most = omega arith;
@@ -106,6 +108,15 @@ module _ {book ws : List ℕ} {t : Tops} {q n : ℕ} {s : Bool} {y : Branch} {th
         waiting = R .waiting;
       }
 
+-- PUTTING A PROGRAM leaves alone what lies outside its two words
+put-program-outside : (lo hi p w q : ℕ) (ws : List ℕ) → (8200 + 2 * p + 1 < lo) ⊎ (hi ≤ 8200 + 2 * p) → Keeps lo hi ws (putProgram p w q ws)
+unfolding putProgram
+put-program-outside lo hi p w q ws (inl h) = keeps-trans (keeps-set lo hi ws (8200 + 2 * p) w (inl (omega arith))) (keeps-set lo hi (set ws (8200 + 2 * p) w) (8200 + 2 * p + 1) q (inl h))
+put-program-outside lo hi p w q ws (inr h) = keeps-trans (keeps-set lo hi ws (8200 + 2 * p) w (inr h)) (keeps-set lo hi (set ws (8200 + 2 * p) w) (8200 + 2 * p + 1) q (inr (omega arith)))
+
+pub leaves-program : (p w q : ℕ) (ws : List ℕ) → p < 514 → Leaves ws (putProgram p w q ws)
+leaves-program p w q ws h = record { index = put-program-outside 4096 6144 p w q ws (inr (omega arith)); numbers = put-program-outside 13568 15616 p w q ws (inl (omega arith)) }
+
 -- PUTTING A PROGRAM: the clauses of suppose goal g before program p
 module _ {book ws : List ℕ} {t : Tops} {q n : ℕ} {s : Bool} {y : Branch} {threads : List Thread} (H : Hand book ws t q n s y threads) (g b p : ℕ) (program : List Force)
     (k : kindAt book g ≡ supposeKind) (G : GoalHere book (t .made) g b) (base : b < 4096) (P : IsProgram book ws (t .made) (t .programs) p program) (below : p < t .programs)
@@ -114,16 +125,7 @@ module _ {book ws : List ℕ} {t : Tops} {q n : ℕ} {s : Bool} {y : Branch} {th
   program-put = putProgram (t .programs) (termWord g b) p ws
 
   program-outside : (lo hi : ℕ) → (8200 + 2 * t .programs + 1 < lo) ⊎ (hi ≤ 8200 + 2 * t .programs) → Keeps lo hi ws program-put
-  unfolding putProgram
-  program-outside lo hi h = keeps-trans (keeps-set lo hi ws (8200 + 2 * t .programs) (termWord g b) (at h)) (keeps-set lo hi (set ws (8200 + 2 * t .programs) (termWord g b)) (8200 + 2 * t .programs + 1) p (past h))
-    where
-      at : (8200 + 2 * t .programs + 1 < lo) ⊎ (hi ≤ 8200 + 2 * t .programs) → (8200 + 2 * t .programs < lo) ⊎ (hi ≤ 8200 + 2 * t .programs)
-      at (inl a) = inl (omega arith)
-      at (inr a) = inr a
-
-      past : (8200 + 2 * t .programs + 1 < lo) ⊎ (hi ≤ 8200 + 2 * t .programs) → (8200 + 2 * t .programs + 1 < lo) ⊎ (hi ≤ 8200 + 2 * t .programs + 1)
-      past (inl a) = inl a
-      past (inr a) = inr (omega arith)
+  program-outside lo hi h = put-program-outside lo hi (t .programs) (termWord g b) p ws h
 
   program-agree : Agree t ws program-put
   program-agree = record {
@@ -174,6 +176,7 @@ module _ {book ws : List ℕ} {t : Tops} {c n : ℕ} {s : Bool} {y : Branch} {th
         sound = record {
           slots = S .slots;
           fits = S .fits;
+          unknowns = S .unknowns;
           cells-some = S .cells-some;
           programs-some = S .programs-some;
           cells-most = S .cells-most;

@@ -21,11 +21,12 @@ use Rattle.branch.proofs.StateLaws.{rest-agree}
 use Rattle.branch.proofs.TakeLaws.{CellAt, goal-unit, and-left, and-right}
 use Rattle.steps.specs.declared.Regs.{Regs}
 use Rattle.steps.specs.declared.Stepped.the-variants.{Onward, Finished}
-use Rattle.steps.specs.Search.{runOn, spentUnits, topsOf, Stands.in-hand, StepGives, StepGives.steps-on, StepGives.steps-end}
+use Rattle.steps.proofs.LeaveLaws.{leaves-trans, leaves-cell, leaves-kept}
+use Rattle.steps.specs.Search.{runOn, spentUnits, topsOf, Leaves, Stands.in-hand, StepGives, StepGives.steps-on, StepGives.steps-end}
 use Rattle.steps.proofs.RunLaws.{unit-gives, unit-stop}
 use Rattle.taking.specs.declared.Cell.{Cell}
 use Rattle.taking.specs.Takes.{inHand, andWords, andRegs, orKept, orWords, orRegs, supposeWords, supposeRegs}
-use Rattle.taking.proofs.HandLaws.{Hand, goal-program, goal-rest, goal-hand, program-hand, program-is, kept-agree, kept-hand}
+use Rattle.taking.proofs.HandLaws.{Hand, leaves-program, goal-program, goal-rest, goal-hand, program-hand, program-is, kept-agree, kept-hand}
 
 -- the goals of an or, and of a suppose goal
 module _ (book : List ℕ) (F : Formed book) (made g b : ℕ) (H : GoalHere book made g b) where
@@ -90,10 +91,10 @@ module _ (book : List ℕ) (F : Formed book) (ws : List ℕ) (r : Regs) (left : 
 
     -- the step gives a branch in hand
     onward : (ws′ : List ℕ) (c p a : ℕ) (s : Bool) (y : Branch) (us : List Thread) → advance (solving x) ≡ on (solving y ∷ us)
-        → Hand book ws′ (topsOf (inHand r c p a s)) c (r .taken + 1) s y (us ++ threads) → StepGives book ws ws′ r left (solving x ∷ threads) (Onward (inHand r c p a s) 1)
+        → Leaves ws ws′ → Hand book ws′ (topsOf (inHand r c p a s)) c (r .taken + 1) s y (us ++ threads) → StepGives book ws ws′ r left (solving x ∷ threads) (Onward (inHand r c p a s) 1)
     unfolding inHand
-    onward ws′ c p a s y us e K =
-        steps-on {r′ = inHand r c p a s} {used = 1} h (omega arith) (in-hand refl (K .sound) (K .branch) (K .waiting)) (unit-gives left (solving x) threads h (solving y ∷ us) e)
+    onward ws′ c p a s y us e L K =
+        steps-on {r′ = inHand r c p a s} {used = 1} h (omega arith) L (in-hand refl (K .sound) (K .branch) (K .waiting)) (unit-gives left (solving x) threads h (solving y ∷ us) e)
 
     falls : X .q < r .cells
     falls = omega (arith, X .falls, X .below)
@@ -110,6 +111,7 @@ module _ (book : List ℕ) (F : Formed book) (ws : List ℕ) (r : Regs) (left : 
         let one = goal-hand rest (field book (X .g) 2) (X .b) (X .p) (X .program) R (X .base) (X .program-is) (X .program-below) falls (omega arith) (omega arith) in
         let P = goal-program rest (field book (X .g) 2) (X .b) (X .p) (X .program) R (X .base) (X .program-is) (X .program-below) falls (omega arith) (omega arith) in
         rw e (onward _ (r .cells + 1) (r .programs) (r .alternatives) (r .supposed) _ [] (took-goal _ (goal-and book F (X .g) (X .here .inside) k))
+        (leaves-trans (leaves-cell (r .cells) _ (X .p) (X .q) ws (omega (arith, few))) (leaves-cell (r .cells + 1) _ (X .p) (r .cells) _ (omega (arith, few))))
         (goal-hand one (field book (X .g) 1) (X .b) (X .p) (X .program) L (X .base) P (X .program-below) (omega arith) (omega arith) (omega arith)))
 
     pub or-steps : (ws′ : List ℕ) → kindAt book (X .g) ≡ orKind → ws′ ≡ orWords book r cellHere ws → StepGives book ws ws′ r left (solving x ∷ threads) (Onward (orRegs r) 1)
@@ -126,6 +128,7 @@ module _ (book : List ℕ) (F : Formed book) (ws : List ℕ) (r : Regs) (left : 
         let kept = kept-hand right (X .q) (took x (X .gs)) (other .branch) a (omega arith) in
         let A = kept-agree right (X .q) (took x (X .gs)) (other .branch) a (omega arith) in
         rw e (onward _ (r .cells + 1) (r .programs) (r .alternatives + 1) (r .supposed) _ (solving _ ∷ []) (took-goal _ (goal-or book F (X .g) (X .here .inside) k))
+        (leaves-trans (leaves-cell (r .cells) _ (X .p) (X .q) ws (omega (arith, B .cells-few))) (leaves-trans (leaves-kept _ (r .alternatives) _ (omega arith) (right .sound .slots .size)) (leaves-cell (r .cells + 1) _ (X .p) (X .q) _ (omega (arith, B .cells-few)))))
         (goal-hand kept (field book (X .g) 1) (X .b) (X .p) (X .program) L (X .base) (rest-agree A (omega arith) P) (X .program-below) (omega (arith, falls)) (omega (arith, B .cells-few)) (omega arith)))
 
     pub suppose-steps : (ws′ : List ℕ) → kindAt book (X .g) ≡ supposeKind → ws′ ≡ supposeWords book r cellHere ws → StepGives book ws ws′ r left (solving x ∷ threads) (Onward (supposeRegs r) 1)
@@ -138,4 +141,5 @@ module _ (book : List ℕ) (F : Formed book) (ws : List ℕ) (r : Regs) (left : 
         let put = program-hand T (X .g) (X .b) (X .p) (X .program) k (X .here) (X .base) (X .program-is) (X .program-below) few (omega arith) in
         let P = program-is T (X .g) (X .b) (X .p) (X .program) k (X .here) (X .base) (X .program-is) (X .program-below) few (omega arith) in
         rw e (onward _ (r .cells) (r .programs + 1) (r .alternatives) true _ [] (took-goal _ (goal-suppose book F (X .g) (X .here .inside) k))
+        (leaves-trans (leaves-program (r .programs) _ (X .p) ws (omega (arith, B .programs-few))) (leaves-cell (r .cells) _ (r .programs) (X .q) _ (omega (arith, B .cells-few))))
         (goal-hand put (field book (X .g) 3) (X .b) (r .programs) _ G (X .base) P (omega arith) falls (omega (arith, B .cells-few)) (omega arith)))

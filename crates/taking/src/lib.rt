@@ -7,7 +7,7 @@ ghost use Rattle.words.specs.Readable.{Readable};
 ghost use Rattle.book.proofs.Accepted.{Formed};
 ghost use Rattle.branch.specs.State.{flag};
 ghost use Rattle.branch.specs.Alternatives.{keepWords};
-ghost use Rattle.branch.specs.Seeking.{OwnReady, Standing};
+ghost use Rattle.branch.specs.Seeking.{OwnReady, OwnIndexed, Standing};
 ghost use Rattle.machine.specs.Machine.{Thread};
 ghost use mathlib.Core.List.{List};
 ghost use Rattle.steps.specs.Search.{Stands, StepContract};
@@ -182,7 +182,7 @@ fn keep_atom(book: &[u8], ws: &mut [u32], r: Regs, x: Cell, q: u32, i: u32)
 // Takes an atom: its first candidate is kept, to which the next step goes back.
 fn take_atom(book: &[u8], ws: &mut [u32], r: Regs, x: Cell) -> Regs
     requires { ⌜ Readable (now book) ⌝ }
-    requires { ⌜ Formed (now book) × OwnReady (now book) 0 ⌝ }
+    requires { ⌜ Formed (now book) × OwnReady (now book) 0 × OwnIndexed (now book) (now ws) ⌝ }
     requires { ⌜ Standing (now book) (now ws) (r .made) (r .programs) (x .program) 0 ⌝ }
     requires { ⌜ Room (now book) (now ws) r x ⌝ }
     ensures { λ y. ⌜ AtomTaken (now (book .entry)) (now (ws .entry)) (now (ws .exit)) r x y ⌝ }
@@ -204,7 +204,7 @@ fn take_atom(book: &[u8], ws: &mut [u32], r: Regs, x: Cell) -> Regs
 // Takes the first goal of the branch in hand.
 pub fn take(book: &[u8], ws: &mut [u32], r: Regs, left: u32) -> Stepped
     requires { ⌜ Readable (now book) ⌝ }
-    requires { ⌜ Formed (now book) × OwnReady (now book) 0 ⌝ }
+    requires { ⌜ Formed (now book) × OwnReady (now book) 0 × OwnIndexed (now book) (now ws) ⌝ }
     requires { ⌜ (r .solving ≡ true) × (0 < r .cell) × (0 < left) ⌝ }
     requires { ⌜ ((threads : List Thread) × Stands (now book) (now ws) r threads) ⌝ }
     ensures { λ o. ⌜ StepContract (now (book .entry)) (now (ws .entry)) (now (ws .exit)) r left o ⌝ }

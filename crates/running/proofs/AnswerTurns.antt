@@ -20,7 +20,6 @@ use Rattle.words.specs.Words.{storeOf}
 use Rattle.words.specs.Frame.{Keeps}
 use Rattle.branch.proofs.StateLaws.{sound-agree, waiting-agree}
 use Rattle.steps.specs.declared.Regs.{Regs}
-use Rattle.steps.specs.Takes.{backRegs}
 use Rattle.steps.specs.Search.{runOut, runOn, topsOf, phase, Stands, Stands.going-back}
 use Rattle.steps.proofs.RunLaws.{at-thread}
 use Rattle.answers.specs.declared.Answered.{Answered}
@@ -29,7 +28,7 @@ use Rattle.answers.specs.Buffer.{answerFor, replyOf, bufferAfter}
 use Rattle.answers.proofs.CallerLaws.{Given, Given.given, Given.stopped, gives, after-numbers}
 use Rattle.running.specs.declared.Turned.{Turned}
 use Rattle.running.specs.declared.Turned.the-variants.{On, Over}
-use Rattle.running.specs.Turns.{requestOf, Midway, ahead, TurnGives, TurnGives.turns-on, TurnGives.turns-over, oneMore}
+use Rattle.running.specs.Turns.{requestOf, Midway, ahead, TurnGives, TurnGives.turns-on, TurnGives.turns-over, oneMore, leftBehind}
 use Rattle.running.proofs.HandLaws.{InHand, hand, list-empty, unit-answered, answer-agree}
 
 -- the tally, as the machine counts and as the code does
@@ -135,8 +134,8 @@ module _ (book : List ℕ) (unknowns wanted size budget : ℕ) (ws ws′ out out
   enough-by k z (cut m) a (stopped o) q e p u = absurd-answer (cc)
 
   more-by : (k : ℕ) (z : Tally) (w : Written) (a : Answered) → Given size (M .lines) out′ w a → a ≡ answered.Written k → whole ≡ Then w → z ≡ oneMore y (r .supposed) → (z .answers ≡ wanted → ⊥)
-      → TurnGives book unknowns wanted size budget ws′ out′ r y whole (On (backRegs r (r .alternatives)) z k)
-  unfolding oneMore backRegs
+      → TurnGives book unknowns wanted size budget ws′ out′ r y whole (On (leftBehind r) z k)
+  unfolding oneMore leftBehind
   more-by k z (written ls) a (given {e = j} g h o) q e p u =
       let i : j ≡ k = cc in
       let za : z .answers ≡ y .answers + 1 = ap (λ t. t .answers) p in
@@ -144,7 +143,7 @@ module _ (book : List ℕ) (unknowns wanted size budget : ℕ) (ws ws′ out out
       let v : y .answers + 1 ≡ wanted → ⊥ = λ x. u (za ∙ x) in
       let A = answer-agree (topsOf r) (H .sound) K in
       let x = e ∙ run-more (requestOf unknowns wanted size) _ _ _ y (M .lines) _ (H .branch-is .supposed-same) ls v in
-      turns-on {r′ = backRegs r (r .alternatives)} {y′ = z} {end′ = k}
+      turns-on {r′ = leftBehind r} {y′ = z} {end′ = k}
       (record {
         threads = H .rest;
         lines = M .lines ++ ls;
@@ -172,6 +171,6 @@ module _ (book : List ℕ) (unknowns wanted size budget : ℕ) (ws ws′ out out
     pub answer-enough : (k : ℕ) (z : Tally) → a ≡ answered.Written k → z ≡ oneMore y (r .supposed) → z .answers ≡ wanted → TurnGives book unknowns wanted size budget ws′ out′ r y whole (Over Enough z)
     answer-enough k z q p u = enough-by k z W a G q whole-is p u
 
-    pub answer-more : (k : ℕ) (z : Tally) (x : Regs) → a ≡ answered.Written k → z ≡ oneMore y (r .supposed) → (z .answers ≡ wanted → ⊥) → x ≡ backRegs r (r .alternatives)
+    pub answer-more : (k : ℕ) (z : Tally) (x : Regs) → a ≡ answered.Written k → z ≡ oneMore y (r .supposed) → (z .answers ≡ wanted → ⊥) → x ≡ leftBehind r
         → TurnGives book unknowns wanted size budget ws′ out′ r y whole (On x z k)
     answer-more k z x q p u xe = rw xe (more-by k z W a G q whole-is p u)

@@ -64,6 +64,11 @@ unfoldable pub oneMore : Tally → Bool → Tally
 oneMore y supposed = record
     { units = y .units + 1; answers = y .answers + 1; assumed = elim supposed [ true ↦ y .assumed + 1 | false ↦ y .assumed ] }
 
+-- the branch in hand is done with: the registers for going back
+unfoldable pub leftBehind : Regs → Regs
+leftBehind r = record
+    { made = r .made; trail = r .trail; cells = r .cells; programs = r .programs; alternatives = r .alternatives; cell = 0; taken = 0; supposed = false; solving = false }
+
 -- the units of a step
 abbrev pub unitsOf : Stepped → ℕ
 unitsOf (Onward r n) = n

@@ -8,9 +8,8 @@ ghost use Rattle.book.specs.Decode.{questionOf};
 ghost use Rattle.machine.specs.Run.{Result, start as startOf};
 ghost use Rattle.machine.specs.Call.{runOf, filledBuffer};
 ghost use Rattle.steps.specs.Search.{Stands, spentUnits};
-ghost use Rattle.steps.specs.Takes.{backRegs};
 ghost use Rattle.answers.specs.Numbers.{NoNumbers};
-ghost use Rattle.running.specs.Turns.{Taken, Midway, TurnGives, oneMore, unitsOf, turnBy};
+ghost use Rattle.running.specs.Turns.{Taken, Midway, TurnGives, oneMore, leftBehind, unitsOf, turnBy};
 use answers::Answered;
 use machine::Ending;
 use machine::Limit;
@@ -63,7 +62,7 @@ fn count_answer(y: Tally, supposed: bool) -> Tally
 
 // The branch in hand is done with: go back.
 fn leave(r: Regs) -> Regs
-    ensures { λ x. ⌜ x ≡ backRegs r (r .alternatives) ⌝ }
+    ensures { λ x. ⌜ x ≡ leftBehind r ⌝ }
 {
     Regs {
         made: r.made,

@@ -1,5 +1,5 @@
+use Rattle.running.specs.Turns.{leftBehind}
 use mathlib.Core.Path.{refl}
-use Rattle.steps.specs.Takes.{backRegs}
 use Rattle.running.proofs.leave.Statement.{statement}
 use Rattle.running.proofs.leave.Tie as tie
 use Rattle.running.proofs.leave.Reads as reads
@@ -7,7 +7,7 @@ use Rattle.running.proofs.leave.Lts as lts
 
 -- src/lib.rt:64:1
 returns : tie.Need-returns
-unfolding backRegs
+unfolding leftBehind
 returns c = refl
 
 pub leave-spec : {M : Type 1} → statement M

@@ -15,7 +15,7 @@ use Rattle.machine.specs.Call.{filledBuffer}
 use Rattle.steps.specs.declared.Regs.{Regs}
 use Rattle.steps.specs.declared.Stepped.{Stepped}
 use Rattle.steps.specs.declared.Stepped.the-variants.{Onward, Finished}
-use Rattle.steps.specs.Search.{runOn, spentUnits, Stands, phase, StepContract}
+use Rattle.steps.specs.Search.{runOn, spentUnits, Stands, phase}
 use Rattle.answers.specs.Numbers.{NoNumbers}
 use Rattle.running.specs.declared.Turned.{Turned}
 use Rattle.running.specs.declared.Turned.the-variants.{On, Over}
@@ -27,7 +27,6 @@ pub record Taken (book : List ℕ) (unknowns wanted size : ℕ) : Type 0 where
   pub wanted-some : 1 ≤ wanted
   pub wanted-most : wanted ≤ 64
   pub size-most : size ≤ 65536
-  pub stand-in : (ws : List ℕ) (r : Regs) (left : ℕ) (o : Stepped) → StepContract book ws ws r left o
 
 -- what the run is asked for
 abbrev pub requestOf : ℕ → ℕ → ℕ → Request

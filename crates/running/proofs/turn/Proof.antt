@@ -20,7 +20,7 @@ sub-left c = search needs
 
 -- src/lib.rt:142:13
 back-requires : tie.Need-back-requires
-back-requires c κs = let p = c .before .before .before .before .before .before .before .pre in let A = p .0 .accepted in let M = p .1 .1 in (readable _ A, ((A .formed, own-ready _ A), (not-true _ (c .before .if1 .taken), ((M .threads, M .stands), p .0 .stand-in _ _ _))))
+back-requires c κs = let p = c .before .before .before .before .before .before .before .pre in let A = p .0 .accepted in let M = p .1 .1 in (readable _ A, (A, (not-true _ (c .before .if1 .taken), (M .threads, M .stands))))
 
 -- src/lib.rt:143:9
 step-taken-requires : tie.Need-step-taken-requires
@@ -56,7 +56,7 @@ returns-3 c = search needs
 
 -- src/lib.rt:151:9
 take-requires : tie.Need-take-requires
-take-requires c κs = let p = c .before .before .before .before .before .before .before .before .before .before .pre in let A = p .0 .accepted in let M = p .1 .1 in (readable _ A, ((A .formed, own-ready _ A), ((not-false _ (c .before .before .before .before .if1 .left), omega (arith, c .before .if3 .left), omega (arith, c .before .before .before .if2 .left)), ((M .threads, M .stands), p .0 .stand-in _ _ _))))
+take-requires c κs = let p = c .before .before .before .before .before .before .before .before .before .before .pre in let A = p .0 .accepted in let M = p .1 .1 in (readable _ A, ((A .formed, own-ready _ A), ((not-false _ (c .before .before .before .before .if1 .left), omega (arith, c .before .if3 .left), omega (arith, c .before .before .before .if2 .left)), (M .threads, M .stands))))
 
 -- src/lib.rt:152:5
 step-taken-requires-2 : tie.Need-step-taken-requires-2

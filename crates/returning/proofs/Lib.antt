@@ -6,3 +6,5 @@ pub mod RenewLaws
 pub mod CandidateLaws
 pub mod BodyGoals
 pub mod TryLaws
+pub mod TryNeeds
+pub mod ReturnLaws

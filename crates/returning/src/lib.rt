@@ -4,7 +4,7 @@ ghost use mathlib.Core.Bool.{false};
 ghost use mathlib.Core.List.{List};
 ghost use Prim.Native.Nat.{_+_, _-_, _*_, _≤_, _<_};
 ghost use lib.ListN.{length, getD};
-ghost use Rattle.book.specs.Records.{field as bookField, records};
+ghost use Rattle.book.specs.Records.{records};
 ghost use Rattle.book.proofs.Accepted.{Accepted};
 ghost use Rattle.machine.specs.Machine.{Thread};
 ghost use Rattle.words.specs.Readable.{Readable};
@@ -96,7 +96,7 @@ fn renew(book: &[u8], ws: &mut [u32], k: u32, x: Back) -> u32
 // Puts the body of clause c, if it has one, at the front of the list, with the program of the call.
 fn put_body(book: &[u8], ws: &mut [u32], c: u32, x: Back) -> Front
     requires { ⌜ Readable (now book) ⌝ }
-    requires { ⌜ (c < records (now book)) × (bookField (now book) c 6 < 4096) × (x .made < 4096) × (x .cells < 1026) × (x .call < 4096) × (x .cell < 4096) × (length (now ws) ≡ 16384) ⌝ }
+    requires { ⌜ (c < records (now book)) × (x .made < 4096) × (x .cells < 1026) × (x .call < 4096) × (x .cell < 4096) × (length (now ws) ≡ 16384) ⌝ }
     ensures { λ l. ⌜ now (ws .exit) ≡ bodyWords (now (book .entry)) c x (now (ws .entry)) ⌝ }
     ensures { λ l. ⌜ l ≡ frontOf (now (book .entry)) c x ⌝ }
 {

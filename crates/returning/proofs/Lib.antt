@@ -8,3 +8,4 @@ pub mod BodyGoals
 pub mod TryLaws
 pub mod TryNeeds
 pub mod ReturnLaws
+pub mod BackNeeds

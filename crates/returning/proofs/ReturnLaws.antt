@@ -39,6 +39,9 @@ low a b w h e = omega arith
 high : (a b w : ℕ) → b < 4096 → w ≡ 4096 * a + b → w / 4096 ≡ a
 high a b w h e = omega arith
 
+tops-same : (x : Back) (t : Tops) (k : ℕ) → x .made ≡ t .made → x .trail ≡ t .trail → x .cells ≡ t .cells → x .programs ≡ t .programs → t .alternatives ≡ k → topsAt x k ≡ t
+tops-same x t k a b c d e = rw (a, b, c, d, ← e) refl
+
 -- WHAT THE REGISTERS SAY in the mode of going back
 pub stands-back : {book ws : List ℕ} {r : Regs} {threads : List Thread} → r .solving ≡ false → Stands book ws r threads → Sound book ws (topsOf r) × Waiting book ws (topsOf r) threads
 stands-back e (in-hand s S B W) = let z : _≡_ {A = Bool} true false = sym s ∙ e in let c : _≡_ {A = ℕ} 0 1 = cc in absurd (omega arith)
@@ -54,7 +57,7 @@ module _ (book : List ℕ) (ws : List ℕ) (r : Regs) (left : ℕ) (threads : Li
   unfolding runOn runOut goOn
   complete h =
       let z = none-left h (stands-back e Z .1) in
-      steps-end {used = 0} (omega arith) refl (λ q y ls. rw z (ap (λ (t : Tally). record { ending = Complete; tally = t; lines = ls }) (none-spent y)))
+      steps-end {e = Complete} {used = 0} (omega arith) refl (λ q y ls. rw z (ap (λ (t : Tally). record { ending = Complete; tally = t; lines = ls }) (none-spent y)))
 
 -- the newest alternative
 pub record Newest (book ws : List ℕ) (t : Tops) (k : ℕ) (threads : List Thread) : Type 0 where
@@ -63,7 +66,7 @@ pub record Newest (book ws : List ℕ) (t : Tops) (k : ℕ) (threads : List Thre
   pub is : threads ≡ thread ∷ ts
   pub resumed : Resumed book ws t k thread ts
 
-newest : {book ws : List ℕ} {t : Tops} {threads : List Thread} (k : ℕ) → t .alternatives ≡ suc k → Sound book ws t → Waiting book ws t threads → Newest book ws t k threads
+pub newest : {book ws : List ℕ} {t : Tops} {threads : List Thread} (k : ℕ) → t .alternatives ≡ suc k → Sound book ws t → Waiting book ws t threads → Newest book ws t k threads
 newest k e S (none-waiting a) = absurd (omega arith)
 newest {book} {ws} {t} k e S (one-waiting {k = j} {x = x} {b = b} {thread = thread} {threads = ts} a h c d f g Sx B Y W) = record
     { thread = thread; ts = ts; is = refl; resumed = resume k e S (one-waiting {k = j} {x = x} {b = b} {thread = thread} {threads = ts} a h c d f g Sx B Y W) }
@@ -102,7 +105,7 @@ module _ (book : List ℕ) (ws : List ℕ) (t : Tops) (k : ℕ) (thread : Thread
   taken-is = high (K .taken) (K .cell) _ cell-small (Y .holds .branch)
 
   tops-is : topsAt x k ≡ K .tops
-  tops-is = rw (Y .made, Y .trail, cells-is, programs-is, ← (Y .holds .below)) refl
+  tops-is = tops-same x (K .tops) k (Y .made) (Y .trail) cells-is programs-is (Y .holds .below)
 
   again : Again book now k x (Y .branch) ts
   unfolding backOf

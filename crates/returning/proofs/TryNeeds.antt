@@ -46,9 +46,14 @@ module _ (book : List ℕ) (R : Readable book) (A : Accepted book) (ws : List �
 
       pub put-ready : (p .clause < records book) × (x .made < 4096) × (x .cells < 1026) × (x .call < 4096) × (x .cell < 4096) × (length ws₁ ≡ 16384)
       put-ready =
-          let S = X .again .sound in
-          (clause-inside, omega (arith, S .slots .room), omega (arith, X .with .room, X .with .most), X .with .called,
-          omega (arith, goals-below (S .cells-some) (X .again .there .goals), S .cells-most), N threads X .below .size ∙ S .slots .size)
+          let S = X .again .sound in (
+            clause-inside,
+            omega (arith, S .slots .room),
+            omega (arith, X .with .room, X .with .most),
+            X .with .called,
+            omega (arith, goals-below (S .cells-some) (X .again .there .goals), S .cells-most),
+            N threads X .below .size ∙ S .slots .size,
+          )
 
       module _ (ws₂ : List ℕ) (l : Front) (we : ws₂ ≡ bodyWords book (p .clause) x ws₁) (le : l ≡ frontOf book (p .clause) x) where
         ready-is : Ready book R A ws k x threads X ws₁ n (N threads X) room-is ws₂ l

@@ -1,19 +1,16 @@
 -- Going back, as the code does it: what it needs, and what the step gives.
 use mathlib.Core.Path.{_≡_, refl, sym, _∙_, ap}
-use mathlib.Core.Bool.{Bool, true, false}
-use mathlib.Core.List.{List, [], _∷_}
-use Prim.Native.Nat.{ℕ, zero, suc, _+_, _-_, _*_, _≤_, _<_}
+use mathlib.Core.Bool.{true, false}
+use mathlib.Core.List.{List, _∷_}
+use Prim.Native.Nat.{ℕ, _-_}
 use native.Mathlib.Omega.{arith}
 use native.Mathlib.Nat.{sub-zero}
 use lib.Dec.{eqb}
-use lib.ListN.{length}
 use Rattle.book.proofs.Accepted.{Accepted}
 use Rattle.machine.specs.declared.Ending.the-variants.{Stopped as StoppedEnding}
 use Rattle.machine.specs.declared.Limit.the-variants.{Budget}
 use Rattle.machine.specs.declared.Tally.{Tally}
 use Rattle.machine.specs.Machine.{Thread, solving}
-use Rattle.machine.specs.Answers.{Line}
-use Rattle.machine.specs.Run.{Request}
 use Rattle.words.specs.Readable.{Readable}
 use Rattle.words.specs.Frame.{Keeps, undo}
 use Rattle.words.proofs.StackLaws.{keeps-trans, keeps-narrow}
@@ -25,9 +22,8 @@ use Rattle.steps.specs.declared.Regs.{Regs}
 use Rattle.steps.specs.declared.Stepped.{Stepped}
 use Rattle.steps.specs.declared.Stepped.the-variants.{Onward, Finished}
 use Rattle.steps.specs.Search.{runOn, spentUnits, topsOf, Stands, Stands.in-hand, StepGives, StepGives.steps-on, StepGives.steps-end}
-use Rattle.returning.specs.declared.Front.{Front}
-use Rattle.returning.specs.Returns.{Again, ToClause, Returned, Returned.to-goal, Returned.to-clause}
-use Rattle.returning.specs.Reentry.{regsOf, Tries}
+use Rattle.returning.specs.Returns.{ToClause, Returned, Returned.to-goal, Returned.to-clause}
+use Rattle.returning.specs.Reentry.{regsAgain, Tries}
 use Rattle.returning.proofs.RenewLaws.{atom-large}
 use Rattle.returning.proofs.CandidateLaws.{none-spent, no-budget}
 use Rattle.returning.proofs.TryLaws.{flag-back}
@@ -67,14 +63,14 @@ module _ (book : List ℕ) (ws : List ℕ) (r : Regs) (threads : List Thread) (e
 
     module _ (left : ℕ) where
       -- the right side of an or, which takes no unit
-      pub goal-again : x .atom ≡ 0 → StepGives book ws ws₁ r left threads (Onward (regsOf x (x .made) k (record { cell = x .cell; cells = x .cells }) (x .trail) true) 0)
-      goal-again h = go here
+      pub goal-again : (s : Regs) → s ≡ regsAgain x k → x .atom ≡ 0 → StepGives book ws ws₁ r left threads (Onward s 0)
+      goal-again s se h = rw se (go here)
         where
-          go : {us : List Thread} → Returned book ws₁ k x us → StepGives book ws ws₁ r left us (Onward (regsOf x (x .made) k (record { cell = x .cell; cells = x .cells }) (x .trail) true) 0)
+          go : {us : List Thread} → Returned book ws₁ k x us → StepGives book ws ws₁ r left us (Onward (regsAgain x k) 0)
           go {us} (to-goal {b = b} {ts = ts} z G) =
-              let B : IsBranch book ws₁ (topsOf (regsOf x (x .made) k (record { cell = x .cell; cells = x .cells }) (x .trail) true)) (x .cell) (x .taken) (eqb (x .supposed) 1) b =
+              let B : IsBranch book ws₁ (topsOf (regsAgain x k)) (x .cell) (x .taken) (eqb (x .supposed) 1) b =
               rw (flag-back (G .supposed) (x .supposed) (G .flagged)) (G .there) in
-              steps-on {r′ = regsOf x (x .made) k (record { cell = x .cell; cells = x .cells }) (x .trail) true} {used = 0} {threads′ = solving b ∷ ts} (omega arith) (rw e (omega arith)) stays
+              steps-on {r′ = regsAgain x k} {used = 0} {threads′ = solving b ∷ ts} (omega arith) (rw e (omega arith)) stays
               (in-hand refl (G .sound) B (G .waiting))
               (λ q y ls. ap (λ (t : Tally). runOn q left t ls (solving b ∷ ts)) (none-spent y) ∙ ap (λ (n : ℕ). runOn q n (spentUnits 0 y) ls (solving b ∷ ts)) (sym (sub-zero left)))
           go (to-clause {threads = us} X) = absurd (omega (arith, atom-large book ws₁ k x us X))

@@ -1,35 +1,33 @@
 -- The body's cell in the state: the list of goals with the body at its front, and all that stays.
-use mathlib.Core.Path.{_≡_, refl, sym, _∙_, ap}
-use mathlib.Core.Logic.{_⊎_, inl, inr}
+use mathlib.Core.Path.{_≡_, refl, _∙_}
+use mathlib.Core.Logic.{inl}
 use mathlib.Core.Bool.{Bool, true, false}
-use mathlib.Core.List.{List, [], _∷_, _++_}
-use Prim.Native.Nat.{ℕ, zero, suc, _+_, _-_, _*_, _≤_, _<_}
+use mathlib.Core.List.{List}
+use Prim.Native.Nat.{ℕ, _+_, _*_, _≤_, _<_}
 use native.Mathlib.Omega.{arith}
-use native.Mathlib.Nat.{le-trans}
 use borrow.Author.Tests.{eq-eqb, ne-eqb}
 use lib.Dec.{eqb}
-use lib.ListN.{length, getD}
-use Rattle.book.specs.Records.{field, records}
-use Rattle.book.specs.Tree.{Goal, Body, noBody, withBody, bodyOf, clause}
+use Rattle.book.specs.Records.{field}
+use Rattle.book.specs.Tree.{Goal, noBody, withBody, bodyOf}
 use Rattle.book.specs.Scoped.{ScopedBody}
 use Rattle.book.specs.Decode.{clauseOf, goalOf, bodyBy}
 use Rattle.book.proofs.Tests.{Tested, equal, other, tested}
-use Rattle.book.proofs.Accepted.{Accepted, Formed}
+use Rattle.book.proofs.Accepted.{Accepted}
 use Rattle.book.proofs.Pointers.{clause-body}
 use Rattle.book.proofs.Unfolding.{clause-of, clause-does}
-use Rattle.machine.specs.Machine.{Thread, Branch, Force, Todo, withBodyOf}
-use Rattle.words.specs.Words.{termWord, storeOf}
+use Rattle.machine.specs.Machine.{Thread, Todo, withBodyOf}
+use Rattle.words.specs.Words.{termWord}
 use Rattle.words.specs.Readable.{Readable}
 use Rattle.words.specs.Frame.{Keeps}
-use Rattle.words.proofs.StackLaws.{keeps-refl, keeps-trans, keeps-narrow, store-same}
+use Rattle.words.proofs.StackLaws.{keeps-refl, keeps-narrow}
 use Rattle.branch.specs.declared.Back.{Back}
-use Rattle.branch.specs.State.{Tops, GoalHere, IsRest, IsGoals, IsBranch, Sound, Waiting, Agree, putCell}
+use Rattle.branch.specs.State.{Tops, GoalHere, IsRest, IsGoals, Sound, Waiting, Agree, putCell}
 use Rattle.branch.proofs.StateLaws.{rest-agree, rest-more, goals-agree, goals-more, goals-push, sound-agree, waiting-agree, waiting-raised}
 use Rattle.branch.proofs.TakeLaws.{cell-agree, cell-word, put-outside}
 use Rattle.branch.proofs.ClauseLaws.{ClauseHere}
 use Rattle.returning.specs.declared.Front.{Front}
 use Rattle.returning.specs.Returns.{topsAt, ToClause}
-use Rattle.returning.specs.Reentry.{placeOf, Renewed, bodyWords, frontOf}
+use Rattle.returning.specs.Reentry.{Renewed, bodyWords, frontOf}
 use Rattle.returning.proofs.BodyLaws.{body-words, body-front, none-words, none-front}
 use Rattle.returning.proofs.RenewLaws.{trail-room, kept-below, rest-below, goals-below}
 use Rattle.returning.proofs.CandidateLaws.{clauseNow, outerNow, clause-now}

@@ -2,36 +2,25 @@
 use mathlib.Core.Path.{_≡_, refl, sym, _∙_, ap}
 use mathlib.Core.Bool.{Bool, true, false}
 use mathlib.Core.List.{List, [], _∷_}
-use Prim.Native.Nat.{ℕ, zero, suc, _+_, _-_, _*_, _/_, _%_, _≤_, _<_}
+use Prim.Native.Nat.{ℕ, suc, _+_, _-_, _*_, _/_, _%_, _<_}
 use native.Mathlib.Omega.{arith}
-use native.Mathlib.Nat.{sub-zero}
-use lib.Dec.{eqb}
-use lib.ListN.{length, getD}
-use Rattle.book.proofs.Accepted.{Accepted}
-use Rattle.machine.specs.declared.Ending.the-variants.{Complete, Stopped as StoppedEnding}
-use Rattle.machine.specs.declared.Limit.the-variants.{Budget}
+use lib.ListN.{getD}
+use Rattle.machine.specs.declared.Ending.the-variants.{Complete}
 use Rattle.machine.specs.declared.Tally.{Tally}
-use Rattle.machine.specs.Machine.{Thread, solving, entering, Branch}
-use Rattle.machine.specs.Answers.{Line}
-use Rattle.machine.specs.Run.{Request, goOn}
-use Rattle.words.specs.Words.{termWord}
-use Rattle.words.specs.Readable.{Readable}
+use Rattle.machine.specs.Machine.{Thread}
+use Rattle.machine.specs.Run.{goOn}
 use Rattle.words.specs.Frame.{Keeps, undo}
-use Rattle.words.proofs.PackLaws.{pack-large}
-use Rattle.words.proofs.StackLaws.{keeps-narrow}
-use Rattle.words.proofs.FrameLaws.{Small, undo-keeps}
+use Rattle.words.proofs.FrameLaws.{undo-keeps}
 use Rattle.branch.specs.declared.Back.{Back}
-use Rattle.branch.specs.State.{Tops, IsBranch, Sound, Kept, Holds, Alternative, Alternative.other-goal, Alternative.other-clause, Waiting, Waiting.none-waiting, Waiting.one-waiting}
-use Rattle.branch.specs.Alternatives.{backOf, BackReady}
+use Rattle.branch.specs.State.{Tops, Sound, Kept, Alternative, Alternative.other-goal, Alternative.other-clause, Waiting, Waiting.none-waiting, Waiting.one-waiting}
+use Rattle.branch.specs.Alternatives.{backOf}
 use Rattle.branch.proofs.BackLaws.{Resumed, resume}
 use Rattle.steps.specs.declared.Regs.{Regs}
-use Rattle.steps.specs.declared.Stepped.{Stepped}
-use Rattle.steps.specs.declared.Stepped.the-variants.{Onward, Finished}
-use Rattle.steps.specs.Search.{runOut, runOn, spentUnits, topsOf, Stands, Stands.in-hand, Stands.going-back, StepGives, StepGives.steps-on, StepGives.steps-end}
-use Rattle.returning.specs.Returns.{topsAt, Again, Candidates, ToClause, Returned, Returned.to-goal, Returned.to-clause}
+use Rattle.steps.specs.declared.Stepped.the-variants.{Finished}
+use Rattle.steps.specs.Search.{runOut, runOn, topsOf, Stands, Stands.in-hand, Stands.going-back, StepGives, StepGives.steps-end}
+use Rattle.returning.specs.Returns.{topsAt, Again, Returned, Returned.to-goal, Returned.to-clause}
 use Rattle.returning.proofs.RenewLaws.{goals-below}
-use Rattle.returning.proofs.CandidateLaws.{none-spent, no-budget}
-use Rattle.returning.proofs.TryLaws.{flag-back}
+use Rattle.returning.proofs.CandidateLaws.{none-spent}
 
 low : (a b w : ℕ) → b < 4096 → w ≡ 4096 * a + b → w % 4096 ≡ b
 low a b w h e = omega arith

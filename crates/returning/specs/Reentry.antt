@@ -2,7 +2,7 @@
 use mathlib.Core.Path.{_≡_}
 use mathlib.Core.Bool.{Bool, true, false}
 use mathlib.Core.List.{List, _++_}
-use Prim.Native.Nat.{ℕ, _+_, _*_, _≤_, _<_}
+use Prim.Native.Nat.{ℕ, _+_, _*_, _≤_}
 use lib.Dec.{eqb}
 use lib.ListN.{getD}
 use Rattle.book.specs.Records.{field, lastRecord}
@@ -48,6 +48,10 @@ frontOf book c x = elim (eqb (field book c 5) 1) [ true ↦ record { cell = x .c
 abbrev pub regsOf : Back → ℕ → ℕ → Front → ℕ → Bool → Regs
 regsOf x made n l trail solving = record
     { made = made; trail = trail; cells = l .cells; programs = x .programs; alternatives = n; cell = l .cell; taken = x .taken; supposed = eqb (x .supposed) 1; solving = solving }
+
+-- the registers with the branch of an alternative in hand again
+abbrev pub regsAgain : Back → ℕ → Regs
+regsAgain x n = regsOf x (x .made) n (record { cell = x .cell; cells = x .cells }) (x .trail) true
 
 -- the clause entered is one unit more than unifying took
 unfoldable pub outcomeBy : Back → ℕ → ℕ → Front → ℕ → ℕ → How → Stepped

@@ -10,7 +10,7 @@ ghost use Rattle.machine.specs.Machine.{Thread};
 ghost use Rattle.words.specs.Readable.{Readable};
 ghost use Rattle.steps.specs.Search.{Stands, StepContract};
 ghost use Rattle.returning.specs.Returns.{Leads, ToClause};
-ghost use Rattle.returning.specs.Reentry.{placeOf, Renewed, bodyWords, frontOf, outcomeOf, Tries};
+ghost use Rattle.returning.specs.Reentry.{placeOf, Renewed, bodyWords, frontOf, regsAgain, outcomeOf, Tries};
 use branch::Back;
 use branch::Candidate;
 use machine::Ending;
@@ -184,6 +184,24 @@ fn try_next(book: &[u8], ws: &mut [u32], k: u32, x: Back, left: u32) -> Stepped
     outcome(x, made, n, l, u)
 }
 
+// The branch of an alternative in hand again, with n alternatives left.
+fn restored(kept: Back, n: u32) -> Regs
+    ensures { λ r. ⌜ r ≡ regsAgain kept n ⌝ }
+{
+    let supposed = kept.supposed == 1;
+    Regs {
+        made: kept.made,
+        trail: kept.trail,
+        cells: kept.cells,
+        programs: kept.programs,
+        alternatives: n,
+        cell: kept.cell,
+        taken: kept.taken,
+        supposed: supposed,
+        solving: true,
+    }
+}
+
 // Goes back to the newest alternative; with none left the search is complete.
 pub fn back(book: &[u8], ws: &mut [u32], r: Regs, left: u32) -> Stepped
     requires { ⌜ Readable (now book) ⌝ }
@@ -198,21 +216,7 @@ pub fn back(book: &[u8], ws: &mut [u32], r: Regs, left: u32) -> Stepped
     let k = r.alternatives - 1;
     let x = branch::go_back(ws, k, r.trail);
     if x.atom == 0 {
-        let supposed = x.supposed == 1;
-        return Stepped::Onward(
-            Regs {
-                made: x.made,
-                trail: x.trail,
-                cells: x.cells,
-                programs: x.programs,
-                alternatives: k,
-                cell: x.cell,
-                taken: x.taken,
-                supposed: supposed,
-                solving: true,
-            },
-            0,
-        );
+        return Stepped::Onward(restored(x, k), 0);
     }
     if left == 0 {
         return Stepped::Finished(Ending::Stopped(Limit::Budget), 0);

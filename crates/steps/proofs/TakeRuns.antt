@@ -1,6 +1,5 @@
 -- Taking a goal, as the machine says it.
 use mathlib.Core.Path.{_≡_, refl, sym, _∙_, ap}
-use mathlib.Core.Logic.{inl}
 use mathlib.Core.Bool.{Bool, true, false}
 use mathlib.Core.List.{List, [], _∷_, _++_}
 use Prim.Native.Nat.{ℕ, zero, suc, _+_, _-_, _*_, _≤_, _<_}
@@ -8,10 +7,11 @@ use native.Mathlib.Omega.{arith}
 use Rattle.book.specs.Records.{field, records}
 use Rattle.book.specs.Kinds.{kindAt, andKind, atomKind}
 use Rattle.words.proofs.FrameLaws.{fits-most}
-use Rattle.words.proofs.StackLaws.{keeps-refl, keeps-trans}
-use Rattle.branch.specs.State.{IsRest}
+use Rattle.branch.specs.State.{IsClause}
 use Rattle.branch.specs.Alternatives.{keepWords}
 use Rattle.branch.proofs.StateLaws.{sound-agree}
+use mathlib.Core.Logic.{inl}
+use Rattle.words.proofs.StackLaws.{keeps-refl, keeps-trans}
 use Rattle.branch.proofs.KeepLaws.{keep-agree, kept-outside, atom-unit, atomKept, atom-waiting}
 use Rattle.book.proofs.Accepted.{Formed}
 use Rattle.machine.specs.declared.Tally.{Tally}
@@ -20,7 +20,7 @@ use Rattle.machine.specs.Answers.{Line}
 use Rattle.machine.specs.Run.{Request, counted}
 use Rattle.words.specs.Words.{termWord}
 use Rattle.branch.specs.State.{Tops, IsBranch, Sound, Waiting, putCell}
-use Rattle.branch.proofs.TakeLaws.{CellAt, and-unit, and-sound, and-branch, and-waiting, two-put, put-outside}
+use Rattle.branch.proofs.TakeLaws.{CellAt, put-outside, and-unit, and-sound, and-branch, and-waiting, two-put}
 use Rattle.steps.specs.declared.Regs.{Regs}
 use Rattle.steps.specs.declared.Stepped.the-variants.{Onward}
 use Rattle.steps.specs.Takes.{andWords, andRegs, backRegs}
@@ -70,7 +70,7 @@ module _ (book : List ℕ) (F : Formed book) (ws : List ℕ) (r : Regs) (left : 
   unfolding backRegs tryAll
   atom-fails e = steps-on {r′ = backRegs r (r .alternatives)} {used = 1} h (omega arith) (keeps-refl 13568 15616 ws) (going-back refl S W) (gives [] (atom-unit book F (topsOf r) ws (r .cell) (r .taken) (r .supposed) x S B X k l [] e))
 
-  pub atom-enters : (q i : ℕ) (f : Force) (after : List Force) (ws′ : List ℕ) → IsRest book ws (r .made) (r .programs) q i (f ∷ after)
+  pub atom-enters : (q i : ℕ) (f : Force) (after : List Force) (ws′ : List ℕ) → IsClause book ws (r .made) (r .programs) q i f after
       → candidates (field book (X .g) 1) (field book (X .g) 2) (f ∷ after) ≡ f ∷ candidates (field book (X .g) 1) (field book (X .g) 2) after
       → candidates (field book (X .g) 1) (field book (X .g) 2) (X .program) ≡ f ∷ candidates (field book (X .g) 1) (field book (X .g) 2) after
       → ws′ ≡ keepWords ws (r .alternatives) (atomKept book F (topsOf r) ws (r .cell) (r .taken) (r .supposed) x S B X k l q i)
@@ -82,8 +82,7 @@ module _ (book : List ℕ) (F : Formed book) (ws : List ℕ) (r : Regs) (left : 
       (fits-most (r .made) (r .trail) ws (S .slots .room) (S .fits)) (S .cells-most) (S .programs-most) in
       let T = sound-agree A S in
       rw e
-      (steps-on {r′ = backRegs r (suc (r .alternatives))} {used = 1} h (omega arith)
-      (kept-outside ws (r .alternatives) (atomKept book F (topsOf r) ws (r .cell) (r .taken) (r .supposed) x S B X k l q i) n (S .slots .size) 13568 15616 (inl (omega arith)))
+      (steps-on {r′ = backRegs r (suc (r .alternatives))} {used = 1} h (omega arith) (kept-outside ws (r .alternatives) _ n (S .slots .size) 13568 15616 (inl (omega arith)))
       (going-back refl
       (record { slots = T .slots; fits = T .fits; unknowns = T .unknowns; cells-some = T .cells-some; programs-some = T .programs-some; cells-most = T .cells-most; programs-most = T .programs-most; alternatives-most = omega arith; small = T .small })
       (atom-waiting book F (topsOf r) ws (r .cell) (r .taken) (r .supposed) x S B X k l q i f after a b W))

@@ -1,0 +1,11 @@
+-- Laws of going back.
+pub mod PlaceLaws
+pub mod BodyLaws
+pub mod OutcomeLaws
+pub mod RenewLaws
+pub mod CandidateLaws
+pub mod BodyGoals
+pub mod TryLaws
+pub mod TryNeeds
+pub mod ReturnLaws
+pub mod BackNeeds

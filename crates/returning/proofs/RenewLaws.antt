@@ -1,0 +1,160 @@
+-- The alternative for the candidates after the one that is tried.
+use mathlib.Core.Path.{_≡_, refl, _∙_, ap}
+use mathlib.Core.Logic.{inl, inr}
+use mathlib.Core.List.{List, [], _∷_, _++_}
+use Prim.Native.Nat.{ℕ, suc, _+_, _-_, _*_, _/_, _%_, _≤_, _<_}
+use native.Mathlib.Omega.{arith}
+use lib.ListN.{length}
+use Rattle.book.specs.Records.{field, records}
+use Rattle.machine.specs.Machine.{Thread, entering, Force, candidates, tryAll}
+use Rattle.words.specs.Words.{recOf, baseOf}
+use Rattle.words.proofs.PackLaws.{rec-pack, base-pack, pack-large}
+use Rattle.words.proofs.StackLaws.{keeps-refl}
+use Rattle.words.proofs.FrameLaws.{fits-most}
+use Rattle.branch.specs.declared.Back.{Back}
+use Rattle.branch.specs.declared.Candidate.{Candidate}
+use Rattle.branch.specs.declared.Candidate.the-variants.{At, Nothing}
+use Rattle.branch.specs.State.{IsRest, IsRest.own-rest, IsRest.put-rest, IsClause, IsGoals, IsGoals.no-goals, IsGoals.goal-cell, Sound, Alternative.other-clause, Agree}
+use Rattle.branch.specs.Alternatives.{keepWords}
+use Rattle.branch.specs.Seeking.{Sought, Sought.sought, Sought.no-more}
+use Rattle.branch.proofs.StateLaws.{rest-agree, waiting-push}
+use Rattle.branch.proofs.KeepLaws.{kept-0, kept-1, kept-2, kept-3, kept-4, kept-5, kept-6, kept-outside, keep-agree}
+use Rattle.returning.specs.Returns.{topsAt, atomOf, ToClause}
+use Rattle.returning.specs.Reentry.{Renewed}
+
+-- the alternative with the next candidate at clause i of program q
+abbrev pub moved : Back → ℕ → ℕ → Back
+moved x q i = record
+    { made = x .made; trail = x .trail; cells = x .cells; programs = x .programs; cell = x .cell; taken = x .taken; supposed = x .supposed; atom = x .atom; call = x .call; node = q; index = i }
+
+-- a program of a place is below the top
+pub rest-below : {book ws : List ℕ} {made top p i : ℕ} {l : List Force} → 1 ≤ top → IsRest book ws made top p i l → p < top
+rest-below h (own-rest e m u) = omega arith
+rest-below h (put-rest a c d e f g i j m r) = c
+
+-- the first cell of a list is below the first free one
+pub goals-below : {book ws : List ℕ} {made cells programs c : ℕ} {gs : _} → 1 ≤ cells → IsGoals book ws made cells programs c gs → c < cells
+goals-below h (no-goals e) = omega arith
+goals-below h (goal-cell a c d e f g i j m r) = c
+
+module _ (book : List ℕ) (ws : List ℕ) (k : ℕ) (x : Back) (threads : List Thread) (X : ToClause book ws k x threads) where
+  pub atom-large : 4096 ≤ x .atom
+  atom-large = rw (X .with .atom) (pack-large (X .a) (X .e))
+
+  pub atom-record : x .atom / 4096 - 1 ≡ X .a
+  unfolding recOf
+  atom-record = rw (X .with .atom) (rec-pack (X .a) (X .e) (X .with .base))
+
+  pub atom-base : x .atom % 4096 ≡ X .e
+  unfolding baseOf
+  atom-base = rw (X .with .atom) (base-pack (X .a) (X .e) (X .with .base))
+
+  pub atom-inside : x .atom / 4096 - 1 < records book
+  atom-inside = rw atom-record (X .with .here .inside)
+
+  abbrev S : Sound book ws (topsAt x k)
+  S = X .again .sound
+
+  pub trail-room : x .trail ≤ 2048
+  trail-room = fits-most (x .made) (x .trail) ws (S .slots .room) (S .fits)
+
+  abbrev threads-left : List Force → List Thread
+  threads-left cs = tryAll (X .b) (atomOf book (X .a) (X .e) (X .program)) cs ++ X .ts
+
+  pub kept-below : k < 512
+  kept-below = omega (arith, X .again .few, X .with .most)
+
+  -- the place after the candidate that is tried
+  pub standing : IsRest book ws (x .made) (x .programs) (x .node) (x .index + 1) (X .after)
+  standing = let z : suc (x .index) ≡ x .index + 1 = omega arith in rw (← z) (X .with .clause .1)
+
+  -- the numbers that are kept are small
+  abbrev Small : ℕ → Type 0
+  Small q = ((k < 512) × (length ws ≡ 16384)) × ((x .made < 4096) × (x .trail < 4096) × (x .cells < 4096) × (x .programs < 4096) × (x .cell < 4096) × (x .taken < 4096) × (x .call < 4096) × (q < 4096))
+
+  keep-small : (q : ℕ) {after : List Force} {i : ℕ} → IsRest book ws (x .made) (x .programs) q i after → Small q
+  keep-small q r = (
+    (kept-below, S .slots .size),
+    (
+      omega (arith, S .slots .room),
+      omega (arith, trail-room),
+      omega (arith, S .cells-most),
+      omega (arith, S .programs-most),
+      omega (arith, goals-below (S .cells-some) (X .again .there .goals), S .cells-most),
+      omega (arith, X .with .most),
+      X .with .called,
+      omega (arith, rest-below (S .programs-some) r, S .programs-most),
+    ),
+  )
+
+  pub renew-drops : candidates (field book (X .a) 1) (field book (X .a) 2) (X .after) ≡ [] → Renewed book ws ws k x threads X k
+  unfolding tryAll
+  renew-drops e = record
+      { below = keeps-refl 0 (9232 + 8 * k) ws; above = keeps-refl 13568 15616 ws; most = omega arith; waiting = rw e (X .again .waiting) }
+
+  module _ (q i : ℕ) (f : Force) (after : List Force) (C : IsClause book ws (x .made) (x .programs) q i f after) where
+    abbrev kk : k < 512
+    kk = kept-below
+
+    abbrev kept : List ℕ
+    kept = keepWords ws k (moved x q i)
+
+    agree : Agree (topsAt x k) ws kept
+    agree = keep-agree ws k (moved x q i) kk (S .slots .size) (topsAt x k) refl (S .slots .room) trail-room (S .cells-most) (S .programs-most)
+
+    pub renew-keeps : candidates (field book (X .a) 1) (field book (X .a) 2) (f ∷ after) ≡ f ∷ candidates (field book (X .a) 1) (field book (X .a) 2) after
+        → candidates (field book (X .a) 1) (field book (X .a) 2) (X .after) ≡ f ∷ candidates (field book (X .a) 1) (field book (X .a) 2) after
+        → Renewed book ws kept k x threads X (k + 1)
+    unfolding tryAll
+    renew-keeps e d =
+        let W = waiting-push (topsAt x k) ws kept (x .cell) (x .taken) (X .again .supposed) (X .b) (entering (X .b) (atomOf book (X .a) (X .e) (X .program)) f (candidates (field book (X .a) 1) (field book (X .a) 2) after)) agree S
+        (record {
+          counts = kept-0 ws k (moved x q i) kk (S .slots .size);
+          lists = kept-1 ws k (moved x q i) kk (S .slots .size);
+          branch = kept-2 ws k (moved x q i) kk (S .slots .size);
+          assumed = kept-3 ws k (moved x q i) kk (S .slots .size) ∙ X .again .flagged;
+          below = refl;
+          few = X .again .few;
+        })
+        (X .again .there)
+        (other-clause {a = X .a} {e = X .e} {p = x .call} {q = q} {i = i} {program = X .program} {rest = after} {c = f} (kept-4 ws k (moved x q i) kk (S .slots .size) ∙ X .with .atom) (X .with .base) (kept-5 ws k (moved x q i) kk (S .slots .size))
+        (X .with .called) (kept-6 ws k (moved x q i) kk (S .slots .size)) (X .with .kind) (X .with .here) (rest-agree agree (omega arith) (X .with .program-is))
+        (rest-agree agree (omega arith) (C .0), rest-agree agree (omega arith) (C .1)) e (X .with .room) (X .with .most))
+        (X .again .waiting) in
+        let z : suc k ≡ k + 1 = omega arith in
+        record {
+          below = kept-outside ws k (moved x q i) kk (S .slots .size) 0 (9232 + 8 * k) (inr (omega arith));
+          above = kept-outside ws k (moved x q i) kk (S .slots .size) 13568 15616 (inl (omega arith));
+          most = omega arith;
+          waiting = rw (d, ← z) W;
+        }
+
+  -- WHAT THE SEARCH SAYS
+  module _ (a f m : ℕ) (ae : a ≡ x .atom / 4096 - 1) (fe : f ≡ field book a 1) (me : m ≡ field book a 2) where
+    abbrev Says : Candidate → Type 0
+    Says o = (rest : List Force) → IsRest book ws (x .made) (x .programs) (x .node) (x .index + 1) rest → Sought book ws (x .made) (x .programs) f m rest o
+
+    here : (o : Candidate) → Says o → Sought book ws (x .made) (x .programs) (field book (X .a) 1) (field book (X .a) 2) (X .after) o
+    here o s =
+        let z : a ≡ X .a = ae ∙ atom-record in
+        let y : f ≡ field book (X .a) 1 = fe ∙ ap (λ (r : ℕ). field book r 1) z in
+        let w : m ≡ field book (X .a) 2 = me ∙ ap (λ (r : ℕ). field book r 2) z in
+        rw (← y, ← w) (s (X .after) standing)
+
+    pub keep-ready : (o : Candidate) (q i : ℕ) → Says o → o ≡ At q i → Small q
+    keep-ready o q i s e = go (rw e at (here o s))
+      where
+        go : Sought book ws (x .made) (x .programs) (field book (X .a) 1) (field book (X .a) 2) (X .after) (At q i) → Small q
+        go (sought r y z) = keep-small q (r .0)
+
+    pub renewed : (o : Candidate) (q i : ℕ) (ws′ : List ℕ) → Says o → o ≡ At q i → ws′ ≡ keepWords ws k (moved x q i) → Renewed book ws ws′ k x threads X (k + 1)
+    renewed o q i ws′ s e d = rw d (go (rw e at (here o s)))
+      where
+        go : Sought book ws (x .made) (x .programs) (field book (X .a) 1) (field book (X .a) 2) (X .after) (At q i) → Renewed book ws (keepWords ws k (moved x q i)) k x threads X (k + 1)
+        go (sought {c = c} {after = after} r y z) = renew-keeps q i c after r y z
+
+    pub dropped : (o : Candidate) → Says o → o ≡ Nothing → Renewed book ws ws k x threads X k
+    dropped o s e = go (rw e at (here o s))
+      where
+        go : Sought book ws (x .made) (x .programs) (field book (X .a) 1) (field book (X .a) 2) (X .after) Nothing → Renewed book ws ws k x threads X k
+        go (no-more z) = renew-drops z

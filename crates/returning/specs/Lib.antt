@@ -1,0 +1,3 @@
+-- Going back to the newest alternative.
+pub mod Returns
+pub mod Reentry

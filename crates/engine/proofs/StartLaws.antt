@@ -155,14 +155,16 @@ pub run-ready : (book : List ℕ) (wanted : ℕ) (ws ws′ out out′ : List ℕ
     → Taken book (r .made) wanted (length out′) × (Stands book ws′ r (start (questionOf book) .thread ∷ []) × (NoNumbers ws′ × (out′ ≡ replicate (length out′) 0)))
 run-ready book wanted ws ws′ out out′ r A h z e w o =
     let n : length out′ ≡ length out = ap length o ∙ length-replicate {A = ℕ} (length out) 0 in
-    let at : (k : ℕ) → k < 16384 → getD ws k 0 ≡ 0 = λ k l. ap (λ (x : List ℕ). getD x k 0) z ∙ getD-replicate (length ws) k 0 0 (omega (arith, h .0)) in
-    (record {
-      accepted = A;
-      unknowns-are = rw e (made-is book);
-      wanted-some = h .2;
-      wanted-most = h .3;
-      size-most = omega (arith, h .1);
-    }, (rw (w, e) (stands-start book A ws (h .0) at), (rw w (start-numbers book A ws (h .0) at), o ∙ ap (λ (k : ℕ). replicate k 0) (sym n))))
+    let at : (k : ℕ) → k < 16384 → getD ws k 0 ≡ 0 = λ k l. ap (λ (x : List ℕ). getD x k 0) z ∙ getD-replicate (length ws) k 0 0 (omega (arith, h .0)) in (
+      record {
+        accepted = A;
+        unknowns-are = rw e (made-is book);
+        wanted-some = h .2;
+        wanted-most = h .3;
+        size-most = omega (arith, h .1);
+      },
+      (rw (w, e) (stands-start book A ws (h .0) at), (rw w (start-numbers book A ws (h .0) at), o ∙ ap (λ (k : ℕ). replicate k 0) (sym n))),
+    )
 
 -- WHAT IS LEFT AFTER IT
 pub run-done : (book : List ℕ) (budget wanted n m words size : ℕ) (x : Ran) (ws out : List ℕ)

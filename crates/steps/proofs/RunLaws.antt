@@ -100,3 +100,19 @@ module _ (q : Request) where
       rw (← i) (moves-run left k t u ts y ls (omega arith) p ∙ ap (λ (n : ℕ). runOn q n (spentUnits k y) ls (u ∷ ts)) z ∙ unit-none u ts (spentUnits k y) ls)
   went-run-stopped left k t w ts y ls m (done p h) e = let c : _≡_ {A = ℕ} 0 1 = cc in absurd (omega arith)
   went-run-stopped left k t w ts y ls m (fails p a d l) e = let c : _≡_ {A = ℕ} 0 1 = cc in absurd (omega arith)
+
+pub one-spent : (y : Tally) → counted y ≡ spentUnits 1 y
+unfolding counted spentUnits
+one-spent y = let z : suc (y .units) ≡ y .units + 1 = omega arith in rw z refl
+
+-- one unit that gives threads; that gives one
+module _ (left : ℕ) (t : Thread) (threads : List Thread) (h : 0 < left) where
+  pub unit-gives : (us : List Thread) → advance t ≡ on us
+      → (q : Request) (y : Tally) (ls : List Line) → runOn q left y ls (t ∷ threads) ≡ runOn q (left - 1) (spentUnits 1 y) ls (us ++ threads)
+  unit-gives us e q y ls =
+      let z : left ≡ suc (left - 1) = omega arith in
+      ap (λ (n : ℕ). runOn q n y ls (t ∷ threads)) z ∙ unit-on q (left - 1) t us threads y ls e ∙ ap (λ (x : Tally). runOn q (left - 1) x ls (us ++ threads)) (one-spent y)
+
+pub one-unit : (left : ℕ) (t u : Thread) (threads : List Thread) → 0 < left → advance t ≡ only u
+    → (q : Request) (y : Tally) (ls : List Line) → runOn q left y ls (t ∷ threads) ≡ runOn q (left - 1) (spentUnits 1 y) ls (u ∷ threads)
+one-unit left t u threads h e = unit-gives left t threads h (u ∷ []) e

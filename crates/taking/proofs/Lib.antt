@@ -1,0 +1,6 @@
+-- Laws of taking a goal.
+pub mod WrittenLaws
+pub mod HandLaws
+pub mod TakeRuns
+pub mod AtomRuns
+pub mod TakingLaws

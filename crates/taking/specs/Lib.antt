@@ -1,0 +1,2 @@
+-- Taking a goal.
+pub mod Takes

@@ -1,0 +1,126 @@
+-- What taking a goal does to the registers and the words. It is exactly one unit.
+use mathlib.Core.Path.{_≡_}
+use mathlib.Core.Bool.{Bool, true, false}
+use mathlib.Core.List.{List}
+use Prim.Native.Nat.{ℕ, _+_, _-_, _*_, _/_, _%_, _<_}
+use lib.ListN.{length, getD, set}
+use Rattle.book.specs.Records.{field}
+use Rattle.machine.specs.Machine.{Force}
+use Rattle.words.specs.Words.{termWord}
+use Rattle.branch.specs.declared.Back.{Back}
+use Rattle.branch.specs.declared.Candidate.{Candidate}
+use Rattle.branch.specs.declared.Candidate.the-variants.{At, Nothing}
+use Rattle.branch.specs.State.{IsProgram, putCell, flag}
+use Rattle.branch.specs.Seeking.{Sought}
+use Rattle.branch.specs.Alternatives.{keepWords}
+use Rattle.steps.specs.declared.Regs.{Regs}
+use Rattle.taking.specs.declared.Cell.{Cell}
+
+-- goal cell c, read
+unfoldable pub cellOf : List ℕ → ℕ → Cell
+cellOf ws c = record {
+  goal = getD ws (6144 + 2 * c) 0 / 4096 - 1;
+  base = getD ws (6144 + 2 * c) 0 % 4096;
+  program = getD ws (6144 + 2 * c + 1) 0 / 4096;
+  next = getD ws (6144 + 2 * c + 1) 0 % 4096;
+}
+
+-- there is room for what taking the goal of cell x writes
+abbrev pub Room : List ℕ → Regs → Cell → Type 0
+Room ws r x =
+    ((x .goal < 4096) × (x .base < 4096) × (x .program < 4096) × (x .next < 4096))
+    × ((r .made < 4096) × (r .trail < 4096) × (r .cells + 1 < 1026) × (r .programs < 514) × (r .alternatives < 512) × (r .taken < 512) × (length ws ≡ 16384))
+
+-- the registers with a branch in hand whose first goal is in the newest cell
+unfoldable pub inHand : Regs → ℕ → ℕ → ℕ → Bool → Regs
+inHand r cell programs alternatives supposed = record {
+  made = r .made;
+  trail = r .trail;
+  cells = cell + 1;
+  programs = programs;
+  alternatives = alternatives;
+  cell = cell;
+  taken = r .taken + 1;
+  supposed = supposed;
+  solving = true;
+}
+
+-- going back, with n alternatives
+unfoldable pub backRegs : Regs → ℕ → Regs
+backRegs r n = record
+    { made = r .made; trail = r .trail; cells = r .cells; programs = r .programs; alternatives = n; cell = 0; taken = 0; supposed = false; solving = false }
+
+-- And: left goal then right goal, both with the program of the whole.
+unfoldable pub andWords : List ℕ → Regs → Cell → List ℕ → List ℕ
+andWords book r x ws =
+    putCell (r .cells + 1) (termWord (field book (x .goal) 1) (x .base)) (x .program) (r .cells)
+    (putCell (r .cells) (termWord (field book (x .goal) 2) (x .base)) (x .program) (x .next) ws)
+
+unfoldable pub andRegs : Regs → Regs
+andRegs r = inHand r (r .cells + 1) (r .programs) (r .alternatives) (r .supposed)
+
+-- Or: left is tried first; right is kept as an alternative. Its goal is already on the list, so no atom is kept with it.
+unfoldable pub orKept : Regs → Back
+orKept r = record {
+  made = r .made;
+  trail = r .trail;
+  cells = r .cells + 1;
+  programs = r .programs;
+  cell = r .cells;
+  taken = r .taken + 1;
+  supposed = flag (r .supposed);
+  atom = 0;
+  call = 0;
+  node = 0;
+  index = 0;
+}
+
+unfoldable pub orWords : List ℕ → Regs → Cell → List ℕ → List ℕ
+orWords book r x ws =
+    putCell (r .cells + 1) (termWord (field book (x .goal) 1) (x .base)) (x .program) (x .next)
+    (keepWords (putCell (r .cells) (termWord (field book (x .goal) 2) (x .base)) (x .program) (x .next) ws) (r .alternatives) (orKept r))
+
+unfoldable pub orRegs : Regs → Regs
+orRegs r = inHand r (r .cells + 1) (r .programs) (r .alternatives + 1) (r .supposed)
+
+-- Suppose: its goal, with the supposed clauses in written order put before the present program.
+unfoldable pub putProgram : ℕ → ℕ → ℕ → List ℕ → List ℕ
+putProgram p w q ws = set (set ws (8200 + 2 * p) w) (8200 + 2 * p + 1) q
+
+unfoldable pub supposeWords : List ℕ → Regs → Cell → List ℕ → List ℕ
+supposeWords book r x ws =
+    putCell (r .cells) (termWord (field book (x .goal) 3) (x .base)) (r .programs) (x .next) (putProgram (r .programs) (termWord (x .goal) (x .base)) (x .program) ws)
+
+unfoldable pub supposeRegs : Regs → Regs
+supposeRegs r = inHand r (r .cells) (r .programs + 1) (r .alternatives) true
+
+-- Atom: the first candidate is kept as an alternative, to which the next step goes back; with none, go back.
+unfoldable pub atomKept : Regs → Cell → ℕ → ℕ → Back
+atomKept r x q i = record {
+  made = r .made;
+  trail = r .trail;
+  cells = r .cells;
+  programs = r .programs;
+  cell = x .next;
+  taken = r .taken + 1;
+  supposed = flag (r .supposed);
+  atom = termWord (x .goal) (x .base);
+  call = x .program;
+  node = q;
+  index = i;
+}
+
+unfoldable pub atomWords : Regs → Cell → Candidate → List ℕ → List ℕ
+atomWords r x (At q i) ws = keepWords ws (r .alternatives) (atomKept r x q i)
+atomWords r x Nothing ws = ws
+
+unfoldable pub atomRegs : Regs → Candidate → Regs
+atomRegs r (At q i) = backRegs r (r .alternatives + 1)
+atomRegs r Nothing = backRegs r (r .alternatives)
+
+pub record AtomTaken (book ws ws′ : List ℕ) (r : Regs) (x : Cell) (y : Regs) : Type 0 where
+  pub candidate : Candidate
+  pub found : (program : List Force) → IsProgram book ws (r .made) (r .programs) (x .program) program
+      → Sought book ws (r .made) (r .programs) (field book (x .goal) 1) (field book (x .goal) 2) program candidate
+  pub words : ws′ ≡ atomWords r x candidate ws
+  pub regs : y ≡ atomRegs r candidate

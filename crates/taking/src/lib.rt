@@ -1,0 +1,236 @@
+// Taking a goal: one unit of the run.
+ghost use mathlib.Core.Path.{_≡_};
+ghost use mathlib.Core.Bool.{true, false};
+ghost use Prim.Native.Nat.{_+_, _-_, _*_, _≤_, _<_};
+ghost use lib.ListN.{length, getD};
+ghost use Rattle.words.specs.Readable.{Readable};
+ghost use Rattle.book.specs.Records.{records};
+ghost use Rattle.book.proofs.Accepted.{Formed};
+ghost use Rattle.branch.specs.State.{flag};
+ghost use Rattle.branch.specs.Alternatives.{keepWords};
+ghost use Rattle.branch.specs.Seeking.{OwnReady, Standing};
+ghost use Rattle.machine.specs.Machine.{Thread};
+ghost use mathlib.Core.List.{List};
+ghost use Rattle.steps.specs.Search.{Stands, StepContract};
+ghost use Rattle.taking.specs.Takes.{cellOf, Room, inHand, backRegs, andWords, andRegs, orWords, orRegs, putProgram, supposeWords, supposeRegs, atomKept, AtomTaken};
+use branch::Back;
+use branch::Candidate;
+use machine::Ending;
+use machine::Limit;
+use steps::Regs;
+use steps::Stepped;
+
+// A goal cell: the goal's record and base, its program, and the next cell.
+pub struct Cell {
+    pub goal: u32,
+    pub base: u32,
+    pub program: u32,
+    pub next: u32,
+}
+
+// Reads goal cell c.
+fn read_cell(ws: &[u32], c: u32) -> Cell
+    requires { ⌜ (c < 1026) × (length (now ws) ≡ 16384) × (4096 ≤ getD (now ws) (6144 + 2 * c) 0) ⌝ }
+    ensures { λ x. ⌜ x ≡ cellOf (now (ws .entry)) c ⌝ }
+{
+    let at = (6144 + 2 * c) as usize;
+    let w = ws[at];
+    let v = ws[at + 1];
+    Cell {
+        goal: w / 4096 - 1,
+        base: w % 4096,
+        program: v / 4096,
+        next: v % 4096,
+    }
+}
+
+// The registers with a branch in hand whose first goal is in `cell`, the newest.
+fn in_hand(r: Regs, cell: u32, programs: u32, alternatives: u32, supposed: bool) -> Regs
+    requires { ⌜ (cell < 1026) × (r .taken < 512) ⌝ }
+    ensures { λ x. ⌜ x ≡ inHand r cell programs alternatives supposed ⌝ }
+{
+    Regs {
+        made: r.made,
+        trail: r.trail,
+        cells: cell + 1,
+        programs: programs,
+        alternatives: alternatives,
+        cell: cell,
+        taken: r.taken + 1,
+        supposed: supposed,
+        solving: true,
+    }
+}
+
+// Takes an and goal: the right goal, then before it the left one.
+fn take_and(book: &[u8], ws: &mut [u32], r: Regs, x: Cell) -> Regs
+    requires { ⌜ Readable (now book) ⌝ }
+    requires { ⌜ x .goal < records (now book) ⌝ }
+    requires { ⌜ Room (now ws) r x ⌝ }
+    ensures { λ y. ⌜ now (ws .exit) ≡ andWords (now (book .entry)) r x (now (ws .entry)) ⌝ }
+    ensures { λ y. ⌜ y ≡ andRegs r ⌝ }
+{
+    let left = words::field(book, x.goal, 1);
+    let right = words::field(book, x.goal, 2);
+    let cells = r.cells;
+    branch::put_cell(ws, cells, 4096 * (right + 1) + x.base, x.program, x.next);
+    branch::put_cell(ws, cells + 1, 4096 * (left + 1) + x.base, x.program, cells);
+    in_hand(r, cells + 1, r.programs, r.alternatives, r.supposed)
+}
+
+// 1 if a suppose goal was taken, as it is kept with an alternative.
+fn flag_of(supposed: bool) -> u32
+    ensures { λ x. ⌜ x ≡ flag supposed ⌝ }
+{
+    if supposed {
+        return 1;
+    }
+    0
+}
+
+// Takes an or goal: the right goal is put and kept as an alternative, then the left one is put.
+fn take_or(book: &[u8], ws: &mut [u32], r: Regs, x: Cell) -> Regs
+    requires { ⌜ Readable (now book) ⌝ }
+    requires { ⌜ x .goal < records (now book) ⌝ }
+    requires { ⌜ Room (now ws) r x ⌝ }
+    ensures { λ y. ⌜ now (ws .exit) ≡ orWords (now (book .entry)) r x (now (ws .entry)) ⌝ }
+    ensures { λ y. ⌜ y ≡ orRegs r ⌝ }
+{
+    let left = words::field(book, x.goal, 1);
+    let right = words::field(book, x.goal, 2);
+    let cells = r.cells;
+    let kept = Back {
+        made: r.made,
+        trail: r.trail,
+        cells: cells + 1,
+        programs: r.programs,
+        cell: cells,
+        taken: r.taken + 1,
+        supposed: flag_of(r.supposed),
+        atom: 0,
+        call: 0,
+        node: 0,
+        index: 0,
+    };
+    branch::put_cell(ws, cells, 4096 * (right + 1) + x.base, x.program, x.next);
+    branch::keep(ws, r.alternatives, kept);
+    branch::put_cell(ws, cells + 1, 4096 * (left + 1) + x.base, x.program, x.next);
+    in_hand(r, cells + 1, r.programs, r.alternatives + 1, r.supposed)
+}
+
+// Writes program p: a suppose goal's word, and the program before which its clauses are put.
+fn put_program(ws: &mut [u32], p: u32, w: u32, q: u32)
+    requires { ⌜ (p < 514) × (length (now ws) ≡ 16384) ⌝ }
+    ensures { λ x. ⌜ now (ws .exit) ≡ putProgram p w q (now (ws .entry)) ⌝ }
+{
+    let at = (8200 + 2 * p) as usize;
+    ws[at] = w;
+    ws[at + 1] = q;
+}
+
+// Takes a suppose goal: its clauses are put before the program, and its goal has the new program.
+fn take_suppose(book: &[u8], ws: &mut [u32], r: Regs, x: Cell) -> Regs
+    requires { ⌜ Readable (now book) ⌝ }
+    requires { ⌜ x .goal < records (now book) ⌝ }
+    requires { ⌜ Room (now ws) r x ⌝ }
+    ensures { λ y. ⌜ now (ws .exit) ≡ supposeWords (now (book .entry)) r x (now (ws .entry)) ⌝ }
+    ensures { λ y. ⌜ y ≡ supposeRegs r ⌝ }
+{
+    let goal = words::field(book, x.goal, 3);
+    let cells = r.cells;
+    let program = r.programs;
+    put_program(ws, program, 4096 * (x.goal + 1) + x.base, x.program);
+    branch::put_cell(ws, cells, 4096 * (goal + 1) + x.base, program, x.next);
+    in_hand(r, cells, program + 1, r.alternatives, true)
+}
+
+// The registers for going back, with n alternatives.
+fn to_back(r: Regs, n: u32) -> Regs
+    ensures { λ x. ⌜ x ≡ backRegs r n ⌝ }
+{
+    Regs {
+        made: r.made,
+        trail: r.trail,
+        cells: r.cells,
+        programs: r.programs,
+        alternatives: n,
+        cell: 0,
+        taken: 0,
+        supposed: false,
+        solving: false,
+    }
+}
+
+// Keeps the candidate that is clause i of program q, for the atom of cell x.
+fn keep_atom(ws: &mut [u32], r: Regs, x: Cell, q: u32, i: u32)
+    requires { ⌜ Room (now ws) r x ⌝ }
+    requires { ⌜ q < 4096 ⌝ }
+    ensures { λ y. ⌜ now (ws .exit) ≡ keepWords (now (ws .entry)) (r .alternatives) (atomKept r x q i) ⌝ }
+{
+    let kept = Back {
+        made: r.made,
+        trail: r.trail,
+        cells: r.cells,
+        programs: r.programs,
+        cell: x.next,
+        taken: r.taken + 1,
+        supposed: flag_of(r.supposed),
+        atom: 4096 * (x.goal + 1) + x.base,
+        call: x.program,
+        node: q,
+        index: i,
+    };
+    branch::keep(ws, r.alternatives, kept);
+}
+
+// Takes an atom: its first candidate is kept, to which the next step goes back.
+fn take_atom(book: &[u8], ws: &mut [u32], r: Regs, x: Cell) -> Regs
+    requires { ⌜ Readable (now book) ⌝ }
+    requires { ⌜ Formed (now book) × OwnReady (now book) 0 ⌝ }
+    requires { ⌜ Standing (now book) (now ws) (r .made) (r .programs) (x .program) 0 ⌝ }
+    requires { ⌜ x .goal < records (now book) ⌝ }
+    requires { ⌜ Room (now ws) r x ⌝ }
+    ensures { λ y. ⌜ AtomTaken (now (book .entry)) (now (ws .entry)) (now (ws .exit)) r x y ⌝ }
+{
+    let f = words::field(book, x.goal, 1);
+    let m = words::field(book, x.goal, 2);
+    let found = branch::seek(book, r.made, ws, r.programs, x.program, 0, f, m);
+    match found {
+        Candidate::At(q, i) => {
+            keep_atom(ws, r, x, q, i);
+            return to_back(r, r.alternatives + 1);
+        }
+        Candidate::Nothing => {
+            return to_back(r, r.alternatives);
+        }
+    }
+}
+
+// Takes the first goal of the branch in hand.
+pub fn take(book: &[u8], ws: &mut [u32], r: Regs, left: u32) -> Stepped
+    requires { ⌜ Readable (now book) ⌝ }
+    requires { ⌜ Formed (now book) × OwnReady (now book) 0 ⌝ }
+    requires { ⌜ (r .solving ≡ true) × (0 < r .cell) × (0 < left) ⌝ }
+    requires { ⌜ ((threads : List Thread) × Stands (now book) (now ws) r threads) ⌝ }
+    ensures { λ o. ⌜ StepContract (now (book .entry)) (now (ws .entry)) (now (ws .exit)) r left o ⌝ }
+{
+    if 512 <= r.taken {
+        return Stepped::Finished(Ending::Stopped(Limit::Goals), 0);
+    }
+    let x = read_cell(ws, r.cell);
+    let kind = words::field(book, x.goal, 0);
+    if kind == 4 {
+        let y = take_atom(book, ws, r, x);
+        return Stepped::Onward(y, 1);
+    }
+    if kind == 5 {
+        let y = take_and(book, ws, r, x);
+        return Stepped::Onward(y, 1);
+    }
+    if kind == 6 {
+        let y = take_or(book, ws, r, x);
+        return Stepped::Onward(y, 1);
+    }
+    let y = take_suppose(book, ws, r, x);
+    Stepped::Onward(y, 1)
+}

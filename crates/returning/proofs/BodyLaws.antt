@@ -1,6 +1,5 @@
 -- The body's cell, as the code puts it.
-use mathlib.Core.Path.{_≡_, refl, sym, _∙_, ap}
-use mathlib.Core.Bool.{true, false}
+use mathlib.Core.Path.{_≡_, refl, sym, _∙_}
 use mathlib.Core.List.{List}
 use Prim.Native.Nat.{ℕ, _+_, _*_}
 use borrow.Author.Tests.{eq-eqb, ne-eqb}
@@ -8,7 +7,6 @@ use Rattle.book.specs.Records.{field}
 use Rattle.words.specs.Words.{termWord}
 use Rattle.branch.specs.declared.Back.{Back}
 use Rattle.branch.specs.State.{putCell}
-use Rattle.returning.specs.declared.Front.{Front}
 use Rattle.returning.specs.Reentry.{bodyWords, frontOf}
 
 module _ (book : List ℕ) (c : ℕ) (x : Back) (ws : List ℕ) where

@@ -1,24 +1,21 @@
 -- The candidate that is tried: its clause in the book, whether it can be entered, and the limit of variables.
 use mathlib.Core.Path.{_≡_, refl, sym, _∙_, ap}
 use mathlib.Core.Bool.{Bool, true, false}
-use mathlib.Core.List.{List, [], _∷_, _++_, map}
-use Prim.Native.Nat.{ℕ, zero, suc, _+_, _-_, _*_, _≤_, _<_}
+use mathlib.Core.List.{List, _∷_}
+use Prim.Native.Nat.{ℕ, suc, _+_, _-_, _≤_, _<_}
 use native.Mathlib.Omega.{arith}
 use native.Mathlib.Nat.{add-zero}
 use borrow.Author.Tests.{lt-leb}
 use lib.ListN.{length, take, length-map, length-take}
-use Rattle.book.specs.Records.{field, records}
+use Rattle.book.specs.Records.{field}
 use Rattle.book.specs.Tree.{variablesOf}
 use Rattle.book.specs.Decode.{clauseOf}
-use Rattle.book.proofs.Accepted.{Accepted, Formed}
+use Rattle.book.proofs.Accepted.{Accepted}
 use Rattle.book.proofs.Unfolding.{clause-variables}
-use Rattle.machine.specs.declared.Limit.{Limit}
 use Rattle.machine.specs.declared.Limit.the-variants.{Budget, Variables}
 use Rattle.machine.specs.declared.Ending.the-variants.{Stopped as StoppedEnding}
 use Rattle.machine.specs.declared.Tally.{Tally}
-use Rattle.machine.specs.Machine.{Thread, entering, Branch, Force, Moved, stop, advance, enter, candidates}
-use Rattle.machine.specs.Answers.{Line}
-use Rattle.machine.specs.Run.{Request}
+use Rattle.machine.specs.Machine.{Thread, entering, Force, stop, advance, enter, candidates}
 use Rattle.words.specs.Words.{entryW, storeOf}
 use Rattle.words.specs.Readable.{Readable}
 use Rattle.words.specs.Good.{Slots}
@@ -30,7 +27,7 @@ use Rattle.branch.proofs.SeekLaws.{clause-candidate}
 use Rattle.steps.specs.declared.Regs.{Regs}
 use Rattle.steps.specs.declared.Stepped.the-variants.{Finished}
 use Rattle.steps.specs.Enters.{EnterReady}
-use Rattle.steps.specs.Search.{runOn, spentUnits, StepGives, StepGives.steps-end}
+use Rattle.steps.specs.Search.{spentUnits, StepGives, StepGives.steps-end}
 use Rattle.steps.proofs.RunLaws.{unit-stop, unit-none}
 use Rattle.steps.proofs.ReadyLaws.{enter-ready}
 use Rattle.returning.specs.Returns.{Leads, atomOf, ToClause}

@@ -6,3 +6,6 @@ pub mod RenewLaws
 pub mod CandidateLaws
 pub mod BodyGoals
 pub mod TryLaws
+pub mod TryNeeds
+pub mod ReturnLaws
+pub mod BackNeeds

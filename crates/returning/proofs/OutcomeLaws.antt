@@ -1,5 +1,5 @@
 -- How entering came out, as the code says it.
-use mathlib.Core.Path.{_≡_, refl, sym, _∙_, ap}
+use mathlib.Core.Path.{_≡_, refl}
 use mathlib.Core.Bool.{true, false}
 use Prim.Native.Nat.{ℕ, _+_}
 use Rattle.machine.specs.declared.Limit.{Limit}
@@ -7,7 +7,6 @@ use Rattle.machine.specs.declared.Ending.the-variants.{Stopped as StoppedEnding
 use Rattle.unifier.specs.declared.How.the-variants.{Done, Failed, Stopped}
 use Rattle.unifier.specs.declared.Unified.{Unified}
 use Rattle.branch.specs.declared.Back.{Back}
-use Rattle.steps.specs.declared.Stepped.{Stepped}
 use Rattle.steps.specs.declared.Stepped.the-variants.{Onward, Finished}
 use Rattle.returning.specs.declared.Front.{Front}
 use Rattle.returning.specs.Reentry.{regsOf, outcomeBy, outcomeOf}

@@ -1,23 +1,21 @@
 -- The clause at a place of a program, as the code reads it.
-use mathlib.Core.Path.{_≡_, refl, sym, _∙_, ap}
-use mathlib.Core.Bool.{true, false}
-use mathlib.Core.List.{List, [], _∷_}
-use Prim.Native.Nat.{ℕ, zero, suc, _+_, _-_, _*_, _/_, _%_, _≤_, _<_}
+use mathlib.Core.Path.{_≡_, refl, sym, _∙_}
+use mathlib.Core.List.{List, _∷_}
+use Prim.Native.Nat.{ℕ, _+_, _-_, _*_, _/_, _%_, _≤_, _<_}
 use native.Mathlib.Omega.{arith}
 use native.Mathlib.Decide.{decLt}
 use borrow.Author.Tests.{eq-eqb, ne-eqb}
-use lib.ListN.{length, getD}
+use lib.ListN.{getD}
 use Rattle.book.specs.Records.{field, records, lastRecord}
-use Rattle.book.proofs.Accepted.{Accepted, Formed}
+use Rattle.book.proofs.Accepted.{Accepted}
 use Rattle.machine.specs.Machine.{Force}
-use Rattle.words.specs.Words.{termWord, recOf, baseOf}
+use Rattle.words.specs.Words.{recOf, baseOf}
 use Rattle.words.specs.Readable.{Readable}
 use Rattle.words.proofs.PackLaws.{rec-pack, base-pack, pack-large}
-use Rattle.branch.specs.State.{ownRun, IsRest, IsClause}
-use Rattle.branch.proofs.SeekChain.{PutAt, put-at, own-at, suppose-run, last-in}
+use Rattle.branch.specs.State.{ownRun, IsClause}
+use Rattle.branch.proofs.SeekChain.{PutAt, put-at, own-at, suppose-run}
 use Rattle.branch.proofs.FromScoped.{own-ready}
 use Rattle.branch.proofs.ClauseLaws.{ClauseHere, put-clause, own-clause}
-use Rattle.returning.specs.declared.InForce.{InForce}
 use Rattle.returning.specs.Reentry.{placeOf}
 
 module _ (book : List ℕ) (R : Readable book) (A : Accepted book) (ws : List ℕ) (made top q i : ℕ) (f : Force) (after : List Force) (C : IsClause book ws made top q i f after) where

@@ -1,28 +1,26 @@
 -- The alternative for the candidates after the one that is tried.
-use mathlib.Core.Path.{_≡_, refl, sym, _∙_, ap}
-use mathlib.Core.Logic.{_⊎_, inl, inr}
-use mathlib.Core.Bool.{Bool, true, false}
+use mathlib.Core.Path.{_≡_, refl, _∙_, ap}
+use mathlib.Core.Logic.{inl, inr}
 use mathlib.Core.List.{List, [], _∷_, _++_}
-use Prim.Native.Nat.{ℕ, zero, suc, _+_, _-_, _*_, _/_, _%_, _≤_, _<_}
+use Prim.Native.Nat.{ℕ, suc, _+_, _-_, _*_, _/_, _%_, _≤_, _<_}
 use native.Mathlib.Omega.{arith}
-use lib.ListN.{length, getD}
+use lib.ListN.{length}
 use Rattle.book.specs.Records.{field, records}
-use Rattle.book.proofs.Accepted.{Accepted, Formed}
-use Rattle.machine.specs.Machine.{Thread, entering, Branch, Force, Atom, candidates, tryAll}
-use Rattle.words.specs.Words.{termWord, recOf, baseOf}
-use Rattle.words.specs.Frame.{Keeps}
+use Rattle.machine.specs.Machine.{Thread, entering, Force, candidates, tryAll}
+use Rattle.words.specs.Words.{recOf, baseOf}
 use Rattle.words.proofs.PackLaws.{rec-pack, base-pack, pack-large}
 use Rattle.words.proofs.StackLaws.{keeps-refl}
 use Rattle.words.proofs.FrameLaws.{fits-most}
 use Rattle.branch.specs.declared.Back.{Back}
 use Rattle.branch.specs.declared.Candidate.{Candidate}
 use Rattle.branch.specs.declared.Candidate.the-variants.{At, Nothing}
-use Rattle.branch.specs.State.{Tops, IsRest, IsRest.own-rest, IsRest.put-rest, IsProgram, IsClause, IsGoals, IsGoals.no-goals, IsGoals.goal-cell, IsBranch, Sound, Kept, Holds, Alternative, Alternative.other-clause, Waiting, Agree}
+use Rattle.branch.specs.State.{IsRest, IsRest.own-rest, IsRest.put-rest, IsClause, IsGoals, IsGoals.no-goals, IsGoals.goal-cell, Sound, Alternative.other-clause, Agree}
 use Rattle.branch.specs.Alternatives.{keepWords}
 use Rattle.branch.specs.Seeking.{Sought, Sought.sought, Sought.no-more}
-use Rattle.branch.proofs.StateLaws.{rest-agree, withOne, waiting-push}
+use Rattle.branch.proofs.StateLaws.{rest-agree, waiting-push}
 use Rattle.branch.proofs.KeepLaws.{kept-0, kept-1, kept-2, kept-3, kept-4, kept-5, kept-6, kept-outside, keep-agree}
-use Rattle.returning.specs.Returns.{topsAt, Again, Candidates, atomOf, ToClause}
+use Rattle.steps.proofs.LeaveLaws.{leaves-none, leaves-kept}
+use Rattle.returning.specs.Returns.{topsAt, atomOf, ToClause}
 use Rattle.returning.specs.Reentry.{Renewed}
 
 -- the alternative with the next candidate at clause i of program q
@@ -93,7 +91,7 @@ module _ (book : List ℕ) (ws : List ℕ) (k : ℕ) (x : Back) (threads : List 
   pub renew-drops : candidates (field book (X .a) 1) (field book (X .a) 2) (X .after) ≡ [] → Renewed book ws ws k x threads X k
   unfolding tryAll
   renew-drops e = record
-      { below = keeps-refl 0 (9232 + 8 * k) ws; above = keeps-refl 13568 15616 ws; most = omega arith; waiting = rw e (X .again .waiting) }
+      { below = keeps-refl 0 (9232 + 8 * k) ws; leaves = leaves-none ws; most = omega arith; waiting = rw e (X .again .waiting) }
 
   module _ (q i : ℕ) (f : Force) (after : List Force) (C : IsClause book ws (x .made) (x .programs) q i f after) where
     abbrev kk : k < 512
@@ -127,7 +125,7 @@ module _ (book : List ℕ) (ws : List ℕ) (k : ℕ) (x : Back) (threads : List 
         let z : suc k ≡ k + 1 = omega arith in
         record {
           below = kept-outside ws k (moved x q i) kk (S .slots .size) 0 (9232 + 8 * k) (inr (omega arith));
-          above = kept-outside ws k (moved x q i) kk (S .slots .size) 13568 15616 (inl (omega arith));
+          leaves = leaves-kept ws k (moved x q i) kk (S .slots .size);
           most = omega arith;
           waiting = rw (d, ← z) W;
         }

@@ -1,13 +1,12 @@
 -- Trying the next candidate, from the renewed alternative and the body's cell to what the step gives.
 use mathlib.Core.Path.{_≡_, refl, sym, _∙_, ap}
 use mathlib.Core.Bool.{Bool, true, false}
-use mathlib.Core.List.{List, [], _∷_, _++_}
-use Prim.Native.Nat.{ℕ, zero, suc, _+_, _-_, _*_, _≤_, _<_}
+use mathlib.Core.List.{List, _∷_, _++_}
+use Prim.Native.Nat.{ℕ, suc, _+_, _-_, _≤_, _<_}
 use native.Mathlib.Omega.{arith}
 use lib.Dec.{eqb}
-use lib.ListN.{length}
 use Rattle.book.specs.Records.{field}
-use Rattle.book.proofs.Accepted.{Accepted, Formed}
+use Rattle.book.proofs.Accepted.{Accepted}
 use Rattle.machine.specs.declared.Limit.{Limit}
 use Rattle.machine.specs.declared.Ending.the-variants.{Stopped as StoppedEnding}
 use Rattle.machine.specs.declared.Tally.{Tally}
@@ -25,18 +24,17 @@ use Rattle.unifier.specs.Moves.{Went, Went.done, Went.fails, Went.full, Went.sp
 use Rattle.branch.specs.declared.Back.{Back}
 use Rattle.branch.specs.State.{Tops, IsBranch, Sound, Waiting, Agree, flag}
 use Rattle.branch.proofs.StateLaws.{goals-agree}
-use Rattle.branch.proofs.ClauseLaws.{ClauseHere}
 use Rattle.steps.specs.declared.Regs.{Regs}
-use Rattle.steps.specs.declared.Stepped.{Stepped}
 use Rattle.steps.specs.declared.Stepped.the-variants.{Onward, Finished}
 use Rattle.steps.specs.Enters.{EnterReady, Enters}
-use Rattle.steps.specs.Search.{runOn, spentUnits, topsOf, Stands, Stands.in-hand, Stands.going-back, StepGives, StepGives.steps-on, StepGives.steps-end}
+use Rattle.steps.specs.Search.{Leaves, runOn, spentUnits, topsOf, Stands.in-hand, Stands.going-back, StepGives, StepGives.steps-on, StepGives.steps-end}
 use Rattle.steps.proofs.EnterRuns.{forceHere, branchHere}
 use Rattle.steps.proofs.EnterWaits.{enters-sound, waiting-enters}
 use Rattle.steps.proofs.BackRuns.{entered-done, entered-failed, entered-stopped}
+use Rattle.steps.proofs.LeaveLaws.{leaves-trans, leaves-between}
 use Rattle.returning.specs.declared.Front.{Front}
-use Rattle.returning.specs.Returns.{topsAt, atomOf, ToClause}
-use Rattle.returning.specs.Reentry.{Renewed, regsOf, outcomeBy, outcomeOf}
+use Rattle.returning.specs.Returns.{atomOf, ToClause}
+use Rattle.returning.specs.Reentry.{Renewed, regsOf, outcomeOf}
 use Rattle.returning.proofs.CandidateLaws.{clauseNow, outerNow, clause-now, can-enter}
 use Rattle.returning.proofs.BodyGoals.{topsWith, madeNow, goalsNow, agree-renewed, Ready}
 use Rattle.returning.proofs.OutcomeLaws.{outcome-done, outcome-failed, outcome-stopped}
@@ -87,8 +85,8 @@ module _ (book : List ℕ) (R : Readable book) (A : Accepted book) (ws : List �
     entered-keeps : Keeps 4096 15616 ws₂ ws₃
     entered-keeps = keeps-trans (keeps-narrow (omega arith) (omega arith) (E .above)) (E .ends .changed .keeps)
 
-    steps-keep : Keeps 13568 15616 ws ws₃
-    steps-keep = keeps-trans (N .above) (keeps-trans (D .above) (keeps-narrow (omega arith) (omega arith) entered-keeps))
+    steps-keep : Leaves ws ws₃
+    steps-keep = leaves-trans (N .leaves) (leaves-trans (D .leaves) (leaves-between (omega arith) entered-keeps))
 
     sound-after : Sound book ws₃ (topsOf (regsOf x made n l (u .trail) true))
     sound-after = enters-sound book (topsWith x (x .made) l n) ws₂ ws₃ (X .a) (X .e) c o (left - 1) u (D .sound) E
@@ -150,7 +148,7 @@ module _ (book : List ℕ) (R : Readable book) (A : Accepted book) (ws : List �
 
       gives-stopped : (m : Limit) → u .how ≡ Stopped m → StepGives book ws ws₃ r left threads (Finished (StoppedEnding m) (u .used + 1))
       gives-stopped m h =
-          steps-end {used = u .used + 1} (omega (arith, used-most)) (steps-keep .size)
+          steps-end {used = u .used + 1} (omega (arith, used-most)) (steps-keep .index .size)
           (λ q y ls. from-here q y ls
           ∙ entered-stopped book (A .formed) (x .made) (x .trail) ws₂ ws₃ (X .a) (X .e) c o (left - 1) u enter-now E (clause-now book R A ws k x threads X .kind) (X .b) store-now (X .program) cs q y ls (X .ts) m h)
 

@@ -2,7 +2,7 @@
 use mathlib.Core.Path.{_≡_}
 use mathlib.Core.Bool.{Bool, true, false}
 use mathlib.Core.List.{List, _++_}
-use Prim.Native.Nat.{ℕ, _+_, _*_, _≤_, _<_}
+use Prim.Native.Nat.{ℕ, _+_, _*_, _≤_}
 use lib.Dec.{eqb}
 use lib.ListN.{getD}
 use Rattle.book.specs.Records.{field, lastRecord}
@@ -18,7 +18,7 @@ use Rattle.branch.specs.State.{Waiting, putCell}
 use Rattle.steps.specs.declared.Regs.{Regs}
 use Rattle.steps.specs.declared.Stepped.{Stepped}
 use Rattle.steps.specs.declared.Stepped.the-variants.{Onward, Finished}
-use Rattle.steps.specs.Search.{StepGives}
+use Rattle.steps.specs.Search.{Leaves, StepGives}
 use Rattle.returning.specs.declared.InForce.{InForce}
 use Rattle.returning.specs.declared.Front.{Front}
 use Rattle.returning.specs.Returns.{topsAt, atomOf, ToClause}
@@ -33,7 +33,7 @@ placeOf book ws q i = elim (eqb q 0) [
 -- the alternative for the candidates after this one is kept in the place of k; with none it is dropped, and there are n now
 pub record Renewed (book ws ws′ : List ℕ) (k : ℕ) (x : Back) (threads : List Thread) (X : ToClause book ws k x threads) (n : ℕ) : Type 0 where
   pub below : Keeps 0 (9232 + 8 * k) ws ws′
-  pub above : Keeps 13568 15616 ws ws′
+  pub leaves : Leaves ws ws′
   pub most : n ≤ k + 1
   pub waiting : Waiting book ws′ (topsAt x n) (tryAll (X .b) (atomOf book (X .a) (X .e) (X .program)) (candidates (field book (X .a) 1) (field book (X .a) 2) (X .after)) ++ X .ts)
 
@@ -48,6 +48,10 @@ frontOf book c x = elim (eqb (field book c 5) 1) [ true ↦ record { cell = x .c
 abbrev pub regsOf : Back → ℕ → ℕ → Front → ℕ → Bool → Regs
 regsOf x made n l trail solving = record
     { made = made; trail = trail; cells = l .cells; programs = x .programs; alternatives = n; cell = l .cell; taken = x .taken; supposed = eqb (x .supposed) 1; solving = solving }
+
+-- the registers with the branch of an alternative in hand again
+abbrev pub regsAgain : Back → ℕ → Regs
+regsAgain x n = regsOf x (x .made) n (record { cell = x .cell; cells = x .cells }) (x .trail) true
 
 -- the clause entered is one unit more than unifying took
 unfoldable pub outcomeBy : Back → ℕ → ℕ → Front → ℕ → ℕ → How → Stepped

@@ -4,13 +4,14 @@ ghost use mathlib.Core.Bool.{false};
 ghost use mathlib.Core.List.{List};
 ghost use Prim.Native.Nat.{_+_, _-_, _*_, _≤_, _<_};
 ghost use lib.ListN.{length, getD};
-ghost use Rattle.book.specs.Records.{field as bookField, records};
+ghost use Rattle.book.specs.Records.{records};
 ghost use Rattle.book.proofs.Accepted.{Accepted};
 ghost use Rattle.machine.specs.Machine.{Thread};
 ghost use Rattle.words.specs.Readable.{Readable};
+ghost use Rattle.branch.specs.Seeking.{OwnIndexed};
 ghost use Rattle.steps.specs.Search.{Stands, StepContract};
 ghost use Rattle.returning.specs.Returns.{Leads, ToClause};
-ghost use Rattle.returning.specs.Reentry.{placeOf, Renewed, bodyWords, frontOf, outcomeOf, Tries};
+ghost use Rattle.returning.specs.Reentry.{placeOf, Renewed, bodyWords, frontOf, regsAgain, outcomeOf, Tries};
 use branch::Back;
 use branch::Candidate;
 use machine::Ending;
@@ -60,7 +61,7 @@ fn place(book: &[u8], ws: &[u32], x: Back) -> InForce
 // Keeps alternative k for the candidates after the next one, if there are any: how many alternatives there are now.
 fn renew(book: &[u8], ws: &mut [u32], k: u32, x: Back) -> u32
     requires { ⌜ Readable (now book) ⌝ }
-    requires { ⌜ Accepted (now book) ⌝ }
+    requires { ⌜ Accepted (now book) × OwnIndexed (now book) (now ws) ⌝ }
     requires { ⌜ ((threads : List Thread) × ToClause (now book) (now ws) k x threads) ⌝ }
     ensures { λ n. ⌜ ((threads : List Thread) (X : ToClause (now (book .entry)) (now (ws .entry)) k x threads) → Renewed (now (book .entry)) (now (ws .entry)) (now (ws .exit)) k x threads X n) ⌝ }
 {
@@ -96,7 +97,7 @@ fn renew(book: &[u8], ws: &mut [u32], k: u32, x: Back) -> u32
 // Puts the body of clause c, if it has one, at the front of the list, with the program of the call.
 fn put_body(book: &[u8], ws: &mut [u32], c: u32, x: Back) -> Front
     requires { ⌜ Readable (now book) ⌝ }
-    requires { ⌜ (c < records (now book)) × (bookField (now book) c 6 < 4096) × (x .made < 4096) × (x .cells < 1026) × (x .call < 4096) × (x .cell < 4096) × (length (now ws) ≡ 16384) ⌝ }
+    requires { ⌜ (c < records (now book)) × (x .made < 4096) × (x .cells < 1026) × (x .call < 4096) × (x .cell < 4096) × (length (now ws) ≡ 16384) ⌝ }
     ensures { λ l. ⌜ now (ws .exit) ≡ bodyWords (now (book .entry)) c x (now (ws .entry)) ⌝ }
     ensures { λ l. ⌜ l ≡ frontOf (now (book .entry)) c x ⌝ }
 {
@@ -158,7 +159,7 @@ fn outcome(x: Back, made: u32, n: u32, l: Front, u: Unified) -> Stepped
 // Tries the next candidate of alternative k, to which the search has just gone back.
 fn try_next(book: &[u8], ws: &mut [u32], k: u32, x: Back, left: u32) -> Stepped
     requires { ⌜ Readable (now book) ⌝ }
-    requires { ⌜ Accepted (now book) ⌝ }
+    requires { ⌜ Accepted (now book) × OwnIndexed (now book) (now ws) ⌝ }
     requires { ⌜ 0 < left ⌝ }
     requires { ⌜ ((threads : List Thread) × ToClause (now book) (now ws) k x threads) ⌝ }
     ensures { λ o. ⌜ Tries (now (book .entry)) (now (ws .entry)) (now (ws .exit)) k x left o ⌝ }
@@ -184,10 +185,28 @@ fn try_next(book: &[u8], ws: &mut [u32], k: u32, x: Back, left: u32) -> Stepped
     outcome(x, made, n, l, u)
 }
 
+// The branch of an alternative in hand again, with n alternatives left.
+fn restored(kept: Back, n: u32) -> Regs
+    ensures { λ r. ⌜ r ≡ regsAgain kept n ⌝ }
+{
+    let supposed = kept.supposed == 1;
+    Regs {
+        made: kept.made,
+        trail: kept.trail,
+        cells: kept.cells,
+        programs: kept.programs,
+        alternatives: n,
+        cell: kept.cell,
+        taken: kept.taken,
+        supposed: supposed,
+        solving: true,
+    }
+}
+
 // Goes back to the newest alternative; with none left the search is complete.
 pub fn back(book: &[u8], ws: &mut [u32], r: Regs, left: u32) -> Stepped
     requires { ⌜ Readable (now book) ⌝ }
-    requires { ⌜ Accepted (now book) ⌝ }
+    requires { ⌜ Accepted (now book) × OwnIndexed (now book) (now ws) ⌝ }
     requires { ⌜ r .solving ≡ false ⌝ }
     requires { ⌜ ((threads : List Thread) × Stands (now book) (now ws) r threads) ⌝ }
     ensures { λ o. ⌜ StepContract (now (book .entry)) (now (ws .entry)) (now (ws .exit)) r left o ⌝ }
@@ -198,21 +217,7 @@ pub fn back(book: &[u8], ws: &mut [u32], r: Regs, left: u32) -> Stepped
     let k = r.alternatives - 1;
     let x = branch::go_back(ws, k, r.trail);
     if x.atom == 0 {
-        let supposed = x.supposed == 1;
-        return Stepped::Onward(
-            Regs {
-                made: x.made,
-                trail: x.trail,
-                cells: x.cells,
-                programs: x.programs,
-                alternatives: k,
-                cell: x.cell,
-                taken: x.taken,
-                supposed: supposed,
-                solving: true,
-            },
-            0,
-        );
+        return Stepped::Onward(restored(x, k), 0);
     }
     if left == 0 {
         return Stepped::Finished(Ending::Stopped(Limit::Budget), 0);

@@ -16,11 +16,11 @@ use Rattle.unifier.specs.Moves.{Moves, Moves.still, Moves.more, Went, Went.done
 use Rattle.unifier.proofs.MoveLaws.{run-moves, unitsMore}
 use Rattle.steps.specs.Search.{runOut, runOn, spentUnits}
 
-abbrev at-thread : Thread → List Thread → Tally → List Line → State
+abbrev pub at-thread : Thread → List Thread → Tally → List Line → State
 at-thread t ts y ls = record { thread = t; waiting = ts; tally = y; lines = ls }
 
 module _ (q : Request) where
-  run-step : (n : ℕ) (s : State) → run q (suc n) s ≡ runOut q n (step q s)
+  pub run-step : (n : ℕ) (s : State) → run q (suc n) s ≡ runOut q n (step q s)
   unfolding run runOut
   run-step n s = go (step q s) refl
     where
@@ -36,7 +36,7 @@ module _ (q : Request) where
   unfolding step after
   step-stop t m ts y ls e = rw e refl
 
-  run-first : (n : ℕ) (t : Thread) (ts : List Thread) (y : Tally) (ls : List Line) → runOn q n y ls (t ∷ ts) ≡ run q n (at-thread t ts y ls)
+  pub run-first : (n : ℕ) (t : Thread) (ts : List Thread) (y : Tally) (ls : List Line) → runOn q n y ls (t ∷ ts) ≡ run q n (at-thread t ts y ls)
   unfolding runOn goOn runOut
   run-first n t ts y ls = refl
 

@@ -1,5 +1,6 @@
 -- Taking an atom: the search for its first candidate, and what is kept.
 use mathlib.Core.Path.{_≡_, refl}
+use mathlib.Core.Logic.{inl}
 use mathlib.Core.List.{List, [], _∷_}
 use Prim.Native.Nat.{ℕ, _+_, _-_, _<_}
 use native.Mathlib.Omega.{arith}
@@ -13,7 +14,7 @@ use Rattle.branch.specs.State.{IsRest, IsClause, IsRest.own-rest, IsRest.put-re
 use Rattle.branch.specs.Alternatives.{keepWords}
 use Rattle.branch.specs.Seeking.{Sought, Sought.sought, Sought.no-more}
 use Rattle.branch.proofs.StateLaws.{sound-agree, waiting-raised}
-use Rattle.branch.proofs.KeepLaws.{keep-agree, atom-unit, atom-waiting}
+use Rattle.branch.proofs.KeepLaws.{kept-outside, keep-agree, atom-unit, atom-waiting}
 use Rattle.branch.proofs.TakeLaws.{CellAt}
 use Rattle.steps.specs.declared.Regs.{Regs}
 use Rattle.steps.specs.declared.Stepped.the-variants.{Onward}

@@ -83,6 +83,7 @@ module _ {book ws : List ℕ} {t : Tops} {q n : ℕ} {s : Bool} {y : Branch} {th
   goal-agree : Agree t ws goal-put
   goal-agree = cell-agree t (t .cells) (termWord g b) p q ws (H .sound .slots .room) (trail-room H) (omega arith) (omega arith)
 
+  -- the answer writer's words are as they were
   -- the program, and the list without the goal, are still there
   pub goal-program : IsProgram book goal-put (t .made) (t .programs) p program
   goal-program = rest-agree goal-agree (omega arith) P

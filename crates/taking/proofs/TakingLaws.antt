@@ -6,7 +6,7 @@ use mathlib.Core.List.{List, _∷_}
 use Prim.Native.Nat.{ℕ, _+_, _-_, _*_, _/_, _%_, _≤_, _<_}
 use native.Mathlib.Omega.{arith}
 use lib.ListN.{length, getD}
-use Rattle.book.specs.Records.{field}
+use Rattle.book.specs.Records.{field, records}
 use Rattle.book.specs.Kinds.{Kind, variableKind, termKind, linkKind, atomKind, andKind, orKind, supposeKind, clauseKind, tieKind, questionKind, noKind, kindOf, kindAt, isGoal}
 use Rattle.book.proofs.Accepted.{Formed}
 use Rattle.book.proofs.KindLaws.{KindSays, kind-says}
@@ -94,12 +94,12 @@ module _ (book : List ℕ) (ws : List ℕ) (r : Regs) (threads : List Thread) (T
       let d : getD ws (6144 + 2 * r .cell + 1) 0 % 4096 ≡ X .q = rw (X .link) (omega arith) in
       rw (cellOf, a, b, c, d) refl
 
-  room-here : Readable book → r .taken < 512 → Room book ws r cell-here
+  room-here : Readable book → r .taken < 512 → Room ws r cell-here
   room-here R l =
       let X = T .cell in
       let S = T .hand .sound in
       let B = T .hand .branch in (
-        (X .here .inside, in-book book R (X .g) (X .here .inside) .1, X .base, omega (arith, X .program-below, S .programs-most), omega (arith, X .falls, cell-below)),
+        (in-book book R (X .g) (X .here .inside) .1, X .base, omega (arith, X .program-below, S .programs-most), omega (arith, X .falls, cell-below)),
         (omega (arith, S .slots .room), omega (arith, trail-room (T .hand)), omega (arith, B .cells-few), omega (arith, B .programs-few), omega (arith, B .alternatives-few), l, S .slots .size),
       )
 
@@ -112,7 +112,10 @@ module _ (book ws : List ℕ) (r : Regs) (s : r .solving ≡ true) (c : 0 < r .c
   read-ready = cell-ready book ws r (some .0) face-some
 
   module _ (x : Cell) (xe : x ≡ cellOf ws (r .cell)) where
-    pub take-room : Readable book → r .taken < 512 → Room book ws r x
+    pub goal-inside : x .goal < records book
+    goal-inside = rw (xe, cell-read book ws r (some .0) face-some) (face-some .cell .here .inside)
+
+    pub take-room : Readable book → r .taken < 512 → Room ws r x
     take-room R l = rw (xe, cell-read book ws r (some .0) face-some) (room-here book ws r (some .0) face-some R l)
 
     pub take-standing : Standing book ws (r .made) (r .programs) (x .program) 0

@@ -4,7 +4,7 @@ use mathlib.Core.Bool.{Bool, true, false}
 use mathlib.Core.List.{List}
 use Prim.Native.Nat.{ℕ, _+_, _-_, _*_, _/_, _%_, _<_}
 use lib.ListN.{length, getD, set}
-use Rattle.book.specs.Records.{field, records}
+use Rattle.book.specs.Records.{field}
 use Rattle.machine.specs.Machine.{Force}
 use Rattle.words.specs.Words.{termWord}
 use Rattle.branch.specs.declared.Back.{Back}
@@ -26,9 +26,9 @@ cellOf ws c = record {
 }
 
 -- there is room for what taking the goal of cell x writes
-abbrev pub Room : List ℕ → List ℕ → Regs → Cell → Type 0
-Room book ws r x =
-    ((x .goal < records book) × (x .goal < 4096) × (x .base < 4096) × (x .program < 4096) × (x .next < 4096))
+abbrev pub Room : List ℕ → Regs → Cell → Type 0
+Room ws r x =
+    ((x .goal < 4096) × (x .base < 4096) × (x .program < 4096) × (x .next < 4096))
     × ((r .made < 4096) × (r .trail < 4096) × (r .cells + 1 < 1026) × (r .programs < 514) × (r .alternatives < 512) × (r .taken < 512) × (length ws ≡ 16384))
 
 -- the registers with a branch in hand whose first goal is in the newest cell

@@ -4,6 +4,7 @@ ghost use mathlib.Core.Bool.{true, false};
 ghost use Prim.Native.Nat.{_+_, _-_, _*_, _≤_, _<_};
 ghost use lib.ListN.{length, getD};
 ghost use Rattle.words.specs.Readable.{Readable};
+ghost use Rattle.book.specs.Records.{records};
 ghost use Rattle.book.proofs.Accepted.{Formed};
 ghost use Rattle.branch.specs.State.{flag};
 ghost use Rattle.branch.specs.Alternatives.{keepWords};
@@ -64,7 +65,8 @@ fn in_hand(r: Regs, cell: u32, programs: u32, alternatives: u32, supposed: bool)
 // Takes an and goal: the right goal, then before it the left one.
 fn take_and(book: &[u8], ws: &mut [u32], r: Regs, x: Cell) -> Regs
     requires { ⌜ Readable (now book) ⌝ }
-    requires { ⌜ Room (now book) (now ws) r x ⌝ }
+    requires { ⌜ x .goal < records (now book) ⌝ }
+    requires { ⌜ Room (now ws) r x ⌝ }
     ensures { λ y. ⌜ now (ws .exit) ≡ andWords (now (book .entry)) r x (now (ws .entry)) ⌝ }
     ensures { λ y. ⌜ y ≡ andRegs r ⌝ }
 {
@@ -89,7 +91,8 @@ fn flag_of(supposed: bool) -> u32
 // Takes an or goal: the right goal is put and kept as an alternative, then the left one is put.
 fn take_or(book: &[u8], ws: &mut [u32], r: Regs, x: Cell) -> Regs
     requires { ⌜ Readable (now book) ⌝ }
-    requires { ⌜ Room (now book) (now ws) r x ⌝ }
+    requires { ⌜ x .goal < records (now book) ⌝ }
+    requires { ⌜ Room (now ws) r x ⌝ }
     ensures { λ y. ⌜ now (ws .exit) ≡ orWords (now (book .entry)) r x (now (ws .entry)) ⌝ }
     ensures { λ y. ⌜ y ≡ orRegs r ⌝ }
 {
@@ -128,7 +131,8 @@ fn put_program(ws: &mut [u32], p: u32, w: u32, q: u32)
 // Takes a suppose goal: its clauses are put before the program, and its goal has the new program.
 fn take_suppose(book: &[u8], ws: &mut [u32], r: Regs, x: Cell) -> Regs
     requires { ⌜ Readable (now book) ⌝ }
-    requires { ⌜ Room (now book) (now ws) r x ⌝ }
+    requires { ⌜ x .goal < records (now book) ⌝ }
+    requires { ⌜ Room (now ws) r x ⌝ }
     ensures { λ y. ⌜ now (ws .exit) ≡ supposeWords (now (book .entry)) r x (now (ws .entry)) ⌝ }
     ensures { λ y. ⌜ y ≡ supposeRegs r ⌝ }
 {
@@ -158,8 +162,8 @@ fn to_back(r: Regs, n: u32) -> Regs
 }
 
 // Keeps the candidate that is clause i of program q, for the atom of cell x.
-fn keep_atom(book: &[u8], ws: &mut [u32], r: Regs, x: Cell, q: u32, i: u32)
-    requires { ⌜ Room (now book) (now ws) r x ⌝ }
+fn keep_atom(ws: &mut [u32], r: Regs, x: Cell, q: u32, i: u32)
+    requires { ⌜ Room (now ws) r x ⌝ }
     requires { ⌜ q < 4096 ⌝ }
     ensures { λ y. ⌜ now (ws .exit) ≡ keepWords (now (ws .entry)) (r .alternatives) (atomKept r x q i) ⌝ }
 {
@@ -184,7 +188,8 @@ fn take_atom(book: &[u8], ws: &mut [u32], r: Regs, x: Cell) -> Regs
     requires { ⌜ Readable (now book) ⌝ }
     requires { ⌜ Formed (now book) × OwnReady (now book) 0 × OwnIndexed (now book) (now ws) ⌝ }
     requires { ⌜ Standing (now book) (now ws) (r .made) (r .programs) (x .program) 0 ⌝ }
-    requires { ⌜ Room (now book) (now ws) r x ⌝ }
+    requires { ⌜ x .goal < records (now book) ⌝ }
+    requires { ⌜ Room (now ws) r x ⌝ }
     ensures { λ y. ⌜ AtomTaken (now (book .entry)) (now (ws .entry)) (now (ws .exit)) r x y ⌝ }
 {
     let f = words::field(book, x.goal, 1);
@@ -192,7 +197,7 @@ fn take_atom(book: &[u8], ws: &mut [u32], r: Regs, x: Cell) -> Regs
     let found = branch::seek(book, r.made, ws, r.programs, x.program, 0, f, m);
     match found {
         Candidate::At(q, i) => {
-            keep_atom(book, ws, r, x, q, i);
+            keep_atom(ws, r, x, q, i);
             return to_back(r, r.alternatives + 1);
         }
         Candidate::Nothing => {

@@ -26,11 +26,11 @@ field-requires-2 c κs = let p = c .before .before .before .before .pre in (p .0
 
 -- src/lib.rt:70:67
 add-seek : tie.Need-add-seek
-add-seek c = let p = c .before .before .before .before .before .before .before .pre in omega (arith, place-few _ (p .0) (p .1 .0) _ _ _ _ _ _ _ (p .1 .1 .1 .with .clause))
+add-seek c = let p = c .before .before .before .before .before .before .before .pre in omega (arith, place-few _ (p .0) (p .1 .0 .0) _ _ _ _ _ _ _ (p .1 .1 .1 .with .clause))
 
 -- src/lib.rt:70:9
 seek-requires : tie.Need-seek-requires
-seek-requires c κs = let p = c .before .before .before .before .before .before .before .pre in let X = p .1 .1 .1 in (p .0, ((p .1 .0 .formed, own-ready _ (p .1 .0)), ((X .after, standing _ _ _ _ _ X), (X .again .sound .slots .size, X .again .sound .programs-most))))
+seek-requires c κs = let p = c .before .before .before .before .before .before .before .pre in let X = p .1 .1 .1 in (p .0, ((p .1 .0 .0 .formed, own-ready _ (p .1 .0 .0), p .1 .0 .1), ((X .after, standing _ _ _ _ _ X), (X .again .sound .slots .size, X .again .sound .programs-most))))
 
 -- src/lib.rt:72:23
 enum-known-next : tie.Need-enum-known-next

@@ -1,5 +1,5 @@
 use native.Mathlib.Omega.{arith}
-use Rattle.taking.proofs.TakingLaws.{stops, read-ready, take-room, take-standing, takes-atom, takes-and, takes-or, takes-suppose}
+use Rattle.taking.proofs.TakingLaws.{stops, read-ready, goal-inside, take-room, take-standing, takes-atom, takes-and, takes-or, takes-suppose}
 use borrow.Author.Needs.{needs}
 use Rattle.taking.proofs.take.Statement.{statement}
 use Rattle.taking.proofs.take.Tie as tie
@@ -22,11 +22,11 @@ read-cell-requires c κs = let p = c .before .before .before .before .before .pr
 
 -- src/lib.rt:216:9
 field-requires : tie.Need-field-requires
-field-requires c κs = let p = c .before .before .before .before .before .before .pre in (p .0, (take-room _ _ _ (p .1 .1 .0 .0) (p .1 .1 .0 .1) (p .1 .1 .1) _ (c .read-cell .ensures) (p .0) (omega (arith, c .before .before .if1 .left)) .0 .0, omega arith))
+field-requires c κs = let p = c .before .before .before .before .before .before .pre in (p .0, (goal-inside _ _ _ (p .1 .1 .0 .0) (p .1 .1 .0 .1) (p .1 .1 .1) _ (c .read-cell .ensures), omega arith))
 
 -- src/lib.rt:218:13
 take-atom-requires : tie.Need-take-atom-requires
-take-atom-requires c κs = let p = c .before .before .before .before .before .before .before .before .before .pre in (p .0, (p .1 .0, (take-standing _ _ _ (p .1 .1 .0 .0) (p .1 .1 .0 .1) (p .1 .1 .1) _ (c .before .before .before .read-cell .ensures), take-room _ _ _ (p .1 .1 .0 .0) (p .1 .1 .0 .1) (p .1 .1 .1) _ (c .before .before .before .read-cell .ensures) (p .0) (omega (arith, c .before .before .before .before .before .if1 .left)))))
+take-atom-requires c κs = let p = c .before .before .before .before .before .before .before .before .before .pre in (p .0, (p .1 .0, (take-standing _ _ _ (p .1 .1 .0 .0) (p .1 .1 .0 .1) (p .1 .1 .1) _ (c .before .before .before .read-cell .ensures), (goal-inside _ _ _ (p .1 .1 .0 .0) (p .1 .1 .0 .1) (p .1 .1 .1) _ (c .before .before .before .read-cell .ensures), take-room _ _ _ (p .1 .1 .0 .0) (p .1 .1 .0 .1) (p .1 .1 .1) _ (c .before .before .before .read-cell .ensures) (p .0) (omega (arith, c .before .before .before .before .before .if1 .left))))))
 
 -- src/lib.rt:219:9
 same-length : tie.Need-same-length
@@ -38,7 +38,7 @@ returns-2 c = let p = c .before .before .before .before .before .before .before 
 
 -- src/lib.rt:222:13
 take-and-requires : tie.Need-take-and-requires
-take-and-requires c κs = let p = c .before .before .before .before .before .before .before .before .before .before .pre in (p .0, take-room _ _ _ (p .1 .1 .0 .0) (p .1 .1 .0 .1) (p .1 .1 .1) _ (c .before .before .before .before .read-cell .ensures) (p .0) (omega (arith, c .before .before .before .before .before .before .if1 .left)))
+take-and-requires c κs = let p = c .before .before .before .before .before .before .before .before .before .before .pre in (p .0, (goal-inside _ _ _ (p .1 .1 .0 .0) (p .1 .1 .0 .1) (p .1 .1 .1) _ (c .before .before .before .before .read-cell .ensures), take-room _ _ _ (p .1 .1 .0 .0) (p .1 .1 .0 .1) (p .1 .1 .1) _ (c .before .before .before .before .read-cell .ensures) (p .0) (omega (arith, c .before .before .before .before .before .before .if1 .left))))
 
 -- src/lib.rt:223:9
 same-length-2 : tie.Need-same-length-2
@@ -50,7 +50,7 @@ returns-3 c = let p = c .before .before .before .before .before .before .before 
 
 -- src/lib.rt:226:13
 take-or-requires : tie.Need-take-or-requires
-take-or-requires c κs = let p = c .before .before .before .before .before .before .before .before .before .before .before .pre in (p .0, take-room _ _ _ (p .1 .1 .0 .0) (p .1 .1 .0 .1) (p .1 .1 .1) _ (c .before .before .before .before .before .read-cell .ensures) (p .0) (omega (arith, c .before .before .before .before .before .before .before .if1 .left)))
+take-or-requires c κs = let p = c .before .before .before .before .before .before .before .before .before .before .before .pre in (p .0, (goal-inside _ _ _ (p .1 .1 .0 .0) (p .1 .1 .0 .1) (p .1 .1 .1) _ (c .before .before .before .before .before .read-cell .ensures), take-room _ _ _ (p .1 .1 .0 .0) (p .1 .1 .0 .1) (p .1 .1 .1) _ (c .before .before .before .before .before .read-cell .ensures) (p .0) (omega (arith, c .before .before .before .before .before .before .before .if1 .left))))
 
 -- src/lib.rt:227:9
 same-length-3 : tie.Need-same-length-3
@@ -62,7 +62,7 @@ returns-4 c = let p = c .before .before .before .before .before .before .before 
 
 -- src/lib.rt:229:9
 take-suppose-requires : tie.Need-take-suppose-requires
-take-suppose-requires c κs = let p = c .before .before .before .before .before .before .before .before .before .before .before .pre in (p .0, take-room _ _ _ (p .1 .1 .0 .0) (p .1 .1 .0 .1) (p .1 .1 .1) _ (c .before .before .before .before .before .read-cell .ensures) (p .0) (omega (arith, c .before .before .before .before .before .before .before .if1 .left)))
+take-suppose-requires c κs = let p = c .before .before .before .before .before .before .before .before .before .before .before .pre in (p .0, (goal-inside _ _ _ (p .1 .1 .0 .0) (p .1 .1 .0 .1) (p .1 .1 .1) _ (c .before .before .before .before .before .read-cell .ensures), take-room _ _ _ (p .1 .1 .0 .0) (p .1 .1 .0 .1) (p .1 .1 .1) _ (c .before .before .before .before .before .read-cell .ensures) (p .0) (omega (arith, c .before .before .before .before .before .before .before .if1 .left))))
 
 -- src/lib.rt:205:1
 same-length-4 : tie.Need-same-length-4

@@ -21,7 +21,7 @@ field-requires-2 c κs = search needs
 
 -- src/lib.rt:186:9
 seek-requires : tie.Need-seek-requires
-seek-requires c κs = let p = c .before .before .before .before .before .pre in (p .0, (p .1 .0, (p .1 .1 .0, (p .1 .1 .1 .1 .6, omega (arith, p .1 .1 .1 .1 .3)))))
+seek-requires c κs = let p = c .before .before .before .before .before .pre in (p .0, (p .1 .0, (p .1 .1 .0, (p .1 .1 .1 .1 .1 .6, omega (arith, p .1 .1 .1 .1 .1 .3)))))
 
 -- src/lib.rt:188:23
 enum-known-found : tie.Need-enum-known-found
@@ -29,11 +29,11 @@ enum-known-found c = search needs
 
 -- src/lib.rt:189:13
 keep-atom-requires : tie.Need-keep-atom-requires
-keep-atom-requires c κs = let p = c .before .before .before .before .before .before .before .before .before .before .pre in (p .1 .1 .1, node-small _ _ (omega (arith, p .1 .1 .1 .1 .3)) (c .before .before .before .before .seek .ensures (p .1 .1 .0 .0) (p .1 .1 .0 .1)) (c .before .before .found .given .1))
+keep-atom-requires c κs = let p = c .before .before .before .before .before .before .before .before .before .before .pre in (p .1 .1 .1 .1, node-small _ _ (omega (arith, p .1 .1 .1 .1 .1 .3)) (c .before .before .before .before .seek .ensures (p .1 .1 .0 .0) (p .1 .1 .0 .1)) (c .before .before .found .given .1))
 
 -- src/lib.rt:190:31
 add-to-back : tie.Need-add-to-back
-add-to-back c = omega (arith, c .before .before .before .before .before .before .before .before .before .before .before .before .before .before .pre .1 .1 .1 .1 .4)
+add-to-back c = omega (arith, c .before .before .before .before .before .before .before .before .before .before .before .before .before .before .pre .1 .1 .1 .1 .1 .4)
 
 -- src/lib.rt:190:13
 to-back-requires : tie.Need-to-back-requires

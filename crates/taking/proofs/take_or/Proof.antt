@@ -74,15 +74,15 @@ put-cell-requires-2 c κs = search needs
 
 -- src/lib.rt:105:16
 add-in-hand : tie.Need-add-in-hand
-add-in-hand c = omega (arith, c .before .before .before .before .before .before .before .before .before .before .before .before .before .before .before .before .before .before .before .before .pre .1 .1 .2)
+add-in-hand c = omega (arith, c .before .before .before .before .before .before .before .before .before .before .before .before .before .before .before .before .before .before .before .before .pre .1 .1 .1 .2)
 
 -- src/lib.rt:105:39
 add-in-hand-2 : tie.Need-add-in-hand-2
-add-in-hand-2 c = omega (arith, c .before .before .before .before .before .before .before .before .before .before .before .before .before .before .before .before .before .before .before .before .before .pre .1 .1 .4)
+add-in-hand-2 c = omega (arith, c .before .before .before .before .before .before .before .before .before .before .before .before .before .before .before .before .before .before .before .before .before .pre .1 .1 .1 .4)
 
 -- src/lib.rt:105:5
 in-hand-requires : tie.Need-in-hand-requires
-in-hand-requires c κs = (c .before .before .before .before .before .before .before .before .before .before .before .before .before .before .before .before .before .before .before .before .before .pre .1 .1 .2, c .before .before .before .before .before .before .before .before .before .before .before .before .before .before .before .before .before .before .before .before .before .pre .1 .1 .5)
+in-hand-requires c κs = (c .before .before .before .before .before .before .before .before .before .before .before .before .before .before .before .before .before .before .before .before .before .pre .1 .1 .1 .2, c .before .before .before .before .before .before .before .before .before .before .before .before .before .before .before .before .before .before .before .before .before .pre .1 .1 .1 .5)
 
 -- src/lib.rt:80:1
 same-length : tie.Need-same-length

@@ -1,0 +1,3 @@
+-- Laws of the start, and of the verdict.
+pub mod StartLaws
+pub mod VerdictLaws

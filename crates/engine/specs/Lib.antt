@@ -1,0 +1,2 @@
+-- The start of a run in the workspace.
+pub mod Start

@@ -1,0 +1,2 @@
+-- The run of an accepted call.
+pub mod Turns

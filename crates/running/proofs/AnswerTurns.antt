@@ -28,7 +28,11 @@ use Rattle.answers.specs.Buffer.{answerFor, replyOf, bufferAfter}
 use Rattle.answers.proofs.CallerLaws.{Given, Given.given, Given.stopped, gives, after-numbers}
 use Rattle.running.specs.declared.Turned.{Turned}
 use Rattle.running.specs.declared.Turned.the-variants.{On, Over}
-use Rattle.running.specs.Turns.{requestOf, Midway, ahead, TurnGives, TurnGives.turns-on, TurnGives.turns-over, oneMore, leftBehind}
+use Rattle.words.proofs.StackLaws.{keeps-narrow}
+use Rattle.index.proofs.IndexLaws.{indexed-same}
+use Rattle.branch.specs.State.{ownRun}
+use Rattle.branch.proofs.FromScoped.{own-ready}
+use Rattle.running.specs.Turns.{Taken, requestOf, Midway, ahead, TurnGives, TurnGives.turns-on, TurnGives.turns-over, oneMore, leftBehind}
 use Rattle.running.proofs.HandLaws.{InHand, hand, list-empty, unit-answered, answer-agree}
 
 -- the tally, as the machine counts and as the code does
@@ -98,7 +102,7 @@ absurd-answer {ℓ} : {X : Type ℓ} → _≡_ {A = ℕ} 0 1 → X
 absurd-answer z = absurd (omega arith)
 
 module _ (book : List ℕ) (unknowns wanted size budget : ℕ) (ws ws′ out out′ : List ℕ) (r : Regs) (y : Tally) (end : ℕ) (whole : Result)
-    (M : Midway book unknowns wanted size budget ws out r y end whole) (s : r .solving ≡ true) (c : r .cell ≡ 0) (l : y .units < budget) (K : Keeps 0 16128 ws ws′) where
+    (T : Taken book unknowns wanted size) (M : Midway book unknowns wanted size budget ws out r y end whole) (s : r .solving ≡ true) (c : r .cell ≡ 0) (l : y .units < budget) (K : Keeps 0 16128 ws ws′) where
   abbrev H : InHand book ws r (M .threads)
   H = hand (M .stands) s
 
@@ -149,6 +153,7 @@ module _ (book : List ℕ) (unknowns wanted size budget : ℕ) (ws ws′ out out
         lines = M .lines ++ ls;
         stands = going-back refl (sound-agree A (H .sound)) (waiting-agree A (H .sound) (H .waiting));
         numbers = after-numbers ws ws′ (M .numbers) K;
+        indexed = indexed-same book (ownRun book .first) (ownRun book .count) (own-ready book (T .accepted) .count-small) (keeps-narrow (omega arith) (omega arith) K) (M .indexed);
         within = omega arith;
         fewer = lt-by (y .answers) wanted (z .answers) za (M .fewer) u;
         assumed-few = rw p (more-assumed y (r .supposed) (M .assumed-few));

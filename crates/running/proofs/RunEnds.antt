@@ -11,38 +11,37 @@ use Rattle.machine.specs.declared.Ending.{Ending}
 use Rattle.machine.specs.declared.Tally.{Tally}
 use Rattle.machine.specs.Answers.{bytesOf}
 use Rattle.machine.specs.Run.{Result, goOn, start, solved}
-use Rattle.machine.specs.Call.{filledBuffer, runOf}
+use Rattle.machine.specs.Call.{noCounts, filledBuffer, runOf}
 use Rattle.steps.specs.declared.Regs.{Regs}
 use Rattle.steps.specs.Search.{runOut, runOn, Stands}
+use Rattle.branch.specs.Seeking.{OwnIndexed}
 use Rattle.answers.specs.Numbers.{NoNumbers}
 use Rattle.running.specs.declared.Turned.{Turned}
 use Rattle.running.specs.declared.Turned.the-variants.{On, Over}
 use Rattle.running.specs.Turns.{Taken, requestOf, Midway, ahead, TurnGives, TurnGives.turns-on, TurnGives.turns-over}
 
-abbrev pub noTally : Tally
-noTally = record { units = 0; answers = 0; assumed = 0 }
-
 whole-run : (book : List ℕ) (unknowns wanted budget size : ℕ) → unknowns ≡ field book (lastRecord book) 4
-    → runOf book budget wanted size ≡ runOn (requestOf unknowns wanted size) budget noTally [] (start (questionOf book) .thread ∷ [])
+    → runOf book budget wanted size ≡ runOn (requestOf unknowns wanted size) budget noCounts [] (start (questionOf book) .thread ∷ [])
 unfolding runOf solved questionOf runOn goOn runOut start
 whole-run book unknowns wanted budget size e = rw e refl
 
-pub midway-start : (book : List ℕ) (unknowns wanted budget : ℕ) (ws out : List ℕ) (r : Regs) → Taken book unknowns wanted (length out) → Stands book ws r (start (questionOf book) .thread ∷ [])
-    → NoNumbers ws → out ≡ replicate (length out) 0 → Midway book unknowns wanted (length out) budget ws out r noTally 0 (runOf book budget wanted (length out))
+pub midway-start : (book : List ℕ) (unknowns wanted budget : ℕ) (ws out : List ℕ) (r : Regs) (y : Tally) → y ≡ noCounts → Taken book unknowns wanted (length out) → Stands book ws r (start (questionOf book) .thread ∷ [])
+    → NoNumbers ws × OwnIndexed book ws → out ≡ replicate (length out) 0 → Midway book unknowns wanted (length out) budget ws out r y 0 (runOf book budget wanted (length out))
 unfolding filledBuffer bytesOf
-midway-start book unknowns wanted budget ws out r T S N z = record {
+midway-start book unknowns wanted budget ws out r y e T S N z = rw e (record {
   threads = start (questionOf book) .thread ∷ [];
   lines = [];
   stands = S;
-  numbers = N;
+  numbers = N .0;
+  indexed = N .1;
   within = omega arith;
   fewer = omega (arith, T .wanted-some);
   assumed-few = omega arith;
   room = omega arith;
   buffer = z ∙ ap (λ (n : ℕ). replicate n 0) (sym (sub-zero (length out)));
   end-is = refl;
-  same-run = whole-run book unknowns wanted budget (length out) (T .unknowns-are) ∙ ap (λ (n : ℕ). runOn (requestOf unknowns wanted (length out)) n noTally [] (start (questionOf book) .thread ∷ [])) (sym (sub-zero budget));
-}
+  same-run = whole-run book unknowns wanted budget (length out) (T .unknowns-are) ∙ ap (λ (n : ℕ). runOn (requestOf unknowns wanted (length out)) n noCounts [] (start (questionOf book) .thread ∷ [])) (sym (sub-zero budget));
+})
 
 module _ {book : List ℕ} {unknowns wanted size budget : ℕ} {ws′ out′ : List ℕ} {r : Regs} {y : Tally} {whole : Result} where
   pub run-on : {o : Turned} (r′ : Regs) (y′ : Tally) (end′ : ℕ) → TurnGives book unknowns wanted size budget ws′ out′ r y whole o → o ≡ On r′ y′ end′

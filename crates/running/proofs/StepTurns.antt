@@ -17,7 +17,10 @@ use Rattle.steps.specs.Search.{runOn, spentUnits, StepGives, StepGives.steps-on
 use Rattle.steps.proofs.RunLaws.{unit-none}
 use Rattle.running.specs.declared.Turned.{Turned}
 use Rattle.running.specs.declared.Turned.the-variants.{Over}
-use Rattle.running.specs.Turns.{requestOf, Midway, TurnGives, TurnGives.turns-on, TurnGives.turns-over, unitsOf, turnBy}
+use Rattle.index.proofs.IndexLaws.{indexed-same}
+use Rattle.branch.specs.State.{ownRun}
+use Rattle.branch.proofs.FromScoped.{own-ready}
+use Rattle.running.specs.Turns.{Taken, requestOf, Midway, TurnGives, TurnGives.turns-on, TurnGives.turns-over, unitsOf, turnBy}
 use Rattle.running.proofs.HandLaws.{InHand, hand}
 
 -- the units of a step are within what is left
@@ -26,7 +29,7 @@ units-most (steps-on a b c d e) = a
 units-most (steps-end a b c) = a
 
 module _ (book : List ℕ) (unknowns wanted size budget : ℕ) (ws out : List ℕ) (r : Regs) (y : Tally) (end : ℕ) (whole : Result)
-    (M : Midway book unknowns wanted size budget ws out r y end whole) where
+    (T : Taken book unknowns wanted size) (M : Midway book unknowns wanted size budget ws out r y end whole) where
   pub units-fit : (ws′ : List ℕ) (left : ℕ) (o : Stepped) → budget < 4294967296 → left ≡ budget - y .units → StepContract book ws ws′ r left o → y .units + unitsOf o < 4294967296
   units-fit ws′ left o b e S = omega (arith, M .within, units-most (S (M .threads) (M .stands)))
 
@@ -40,7 +43,8 @@ module _ (book : List ℕ) (unknowns wanted size budget : ℕ) (ws out : List �
         threads = ts;
         lines = M .lines;
         stands = S;
-        numbers = λ v l. k .same (13568 + v) (omega arith) (omega arith) ∙ M .numbers v l;
+        numbers = λ v l. k .numbers .same (13568 + v) (omega arith) (omega arith) ∙ M .numbers v l;
+        indexed = indexed-same book (ownRun book .first) (ownRun book .count) (own-ready book (T .accepted) .count-small) (k .index) (M .indexed);
         within = omega arith;
         fewer = M .fewer;
         assumed-few = M .assumed-few;

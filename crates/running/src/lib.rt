@@ -6,8 +6,9 @@ ghost use Prim.Native.Nat.{_+_, _≤_, _<_};
 ghost use lib.ListN.{length, replicate};
 ghost use Rattle.book.specs.Decode.{questionOf};
 ghost use Rattle.machine.specs.Run.{Result, start as startOf};
-ghost use Rattle.machine.specs.Call.{runOf, filledBuffer};
+ghost use Rattle.machine.specs.Call.{noCounts, runOf, filledBuffer};
 ghost use Rattle.steps.specs.Search.{Stands, spentUnits};
+ghost use Rattle.branch.specs.Seeking.{OwnIndexed};
 ghost use Rattle.answers.specs.Numbers.{NoNumbers};
 ghost use Rattle.running.specs.Turns.{Taken, Midway, TurnGives, oneMore, leftBehind, unitsOf, turnBy};
 use answers::Answered;
@@ -151,7 +152,7 @@ fn turn(
     step_taken(y, end, t)
 }
 
-// The whole run from the registers of the start, with the answer buffer all zero.
+// The whole run from the registers of the start, with the answer buffer all zero and nothing counted yet.
 pub fn run(
     book: &[u8],
     ws: &mut [u32],
@@ -160,21 +161,19 @@ pub fn run(
     unknowns: u32,
     wanted: u32,
     budget: u32,
+    tally: Tally,
 ) -> Ran
     requires { ⌜ Taken (now book) unknowns wanted (length (now out)) ⌝ }
     requires { ⌜ Stands (now book) (now ws) start (startOf (questionOf (now book)) .thread ∷ []) ⌝ }
-    requires { ⌜ NoNumbers (now ws) ⌝ }
+    requires { ⌜ NoNumbers (now ws) × OwnIndexed (now book) (now ws) ⌝ }
+    requires { ⌜ tally ≡ noCounts ⌝ }
     requires { ⌜ now out ≡ replicate (length (now out)) 0 ⌝ }
     ensures { λ x. ⌜ (x .ending ≡ runOf (now (book .entry)) budget wanted (length (now (out .entry))) .ending)
         × (x .tally ≡ runOf (now (book .entry)) budget wanted (length (now (out .entry))) .tally) ⌝ }
     ensures { λ x. ⌜ now (out .exit) ≡ filledBuffer (length (now (out .entry))) (runOf (now (book .entry)) budget wanted (length (now (out .entry))) .lines) ⌝ }
 {
     let mut r = start;
-    let mut y = Tally {
-        units: 0,
-        answers: 0,
-        assumed: 0,
-    };
+    let mut y = tally;
     let mut end: usize = 0;
     loop {
         match turn(book, ws, out, r, y, end, unknowns, wanted, budget) {

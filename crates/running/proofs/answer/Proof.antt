@@ -39,7 +39,7 @@ same-length-2 c = search needs
 
 -- src/lib.rt:116:17
 returns : tie.Need-returns
-returns c = let p = c .before .before .before .before .before .before .before .before .before .before .before .before .before .before .before .before .before .pre in λ whole M. answer-enough _ _ _ _ _ _ _ _ _ _ _ _ whole M (p .1 .1 .0) (p .1 .1 .1) (p .1 .1 .2) (c .before .before .before .before .before .before .before .before .before .before .write-answer .ensures .1 .1) _ (c .before .before .before .before .before .before .before .before .before .before .write-answer .ensures .0) (c .before .before .before .before .before .before .before .before .before .before .write-answer .ensures .1 .0) _ _ (c .before .before .before .before .e .given .1) (c .before .before .count-answer .ensures) (c .if1 .taken)
+returns c = let p = c .before .before .before .before .before .before .before .before .before .before .before .before .before .before .before .before .before .pre in λ whole M. answer-enough _ _ _ _ _ _ _ _ _ _ _ _ whole (p .0) M (p .1 .1 .0) (p .1 .1 .1) (p .1 .1 .2) (c .before .before .before .before .before .before .before .before .before .before .write-answer .ensures .1 .1) _ (c .before .before .before .before .before .before .before .before .before .before .write-answer .ensures .0) (c .before .before .before .before .before .before .before .before .before .before .write-answer .ensures .1 .0) _ _ (c .before .before .before .before .e .given .1) (c .before .before .count-answer .ensures) (c .if1 .taken)
 
 -- src/lib.rt:118:24
 leave-requires : tie.Need-leave-requires
@@ -55,7 +55,7 @@ same-length-4 c = search needs
 
 -- src/lib.rt:93:1
 returns-2 : tie.Need-returns-2
-returns-2 c = let p = c .before .before .before .before .before .before .before .before .before .before .before .before .before .before .pre in λ whole M. answer-cut _ _ _ _ _ _ _ _ _ _ _ _ whole M (p .1 .1 .0) (p .1 .1 .1) (p .1 .1 .2) (c .before .before .before .before .before .before .before .write-answer .ensures .1 .1) _ (c .before .before .before .before .before .before .before .write-answer .ensures .0) (c .before .before .before .before .before .before .before .write-answer .ensures .1 .0) _ (c .before .m .given .1)
+returns-2 c = let p = c .before .before .before .before .before .before .before .before .before .before .before .before .before .before .pre in λ whole M. answer-cut _ _ _ _ _ _ _ _ _ _ _ _ whole (p .0) M (p .1 .1 .0) (p .1 .1 .1) (p .1 .1 .2) (c .before .before .before .before .before .before .before .write-answer .ensures .1 .1) _ (c .before .before .before .before .before .before .before .write-answer .ensures .0) (c .before .before .before .before .before .before .before .write-answer .ensures .1 .0) _ (c .before .m .given .1)
 
 -- src/lib.rt:93:1
 same-length-5 : tie.Need-same-length-5
@@ -67,7 +67,7 @@ same-length-6 c = search needs
 
 -- src/lib.rt:93:1
 returns-3 : tie.Need-returns-3
-returns-3 c = let p = c .before .before .before .before .before .before .before .before .before .before .before .before .before .before .before .before .before .before .pre in λ whole M. answer-more _ _ _ _ _ _ _ _ _ _ _ _ whole M (p .1 .1 .0) (p .1 .1 .1) (p .1 .1 .2) (c .before .before .before .before .before .before .before .before .before .before .before .write-answer .ensures .1 .1) _ (c .before .before .before .before .before .before .before .before .before .before .before .write-answer .ensures .0) (c .before .before .before .before .before .before .before .before .before .before .before .write-answer .ensures .1 .0) _ _ _ (c .before .before .before .before .before .e .given .1) (c .before .before .before .count-answer .ensures) (c .before .if1 .left) (c .leave .ensures)
+returns-3 c = let p = c .before .before .before .before .before .before .before .before .before .before .before .before .before .before .before .before .before .before .pre in λ whole M. answer-more _ _ _ _ _ _ _ _ _ _ _ _ whole (p .0) M (p .1 .1 .0) (p .1 .1 .1) (p .1 .1 .2) (c .before .before .before .before .before .before .before .before .before .before .before .write-answer .ensures .1 .1) _ (c .before .before .before .before .before .before .before .before .before .before .before .write-answer .ensures .0) (c .before .before .before .before .before .before .before .before .before .before .before .write-answer .ensures .1 .0) _ _ _ (c .before .before .before .before .before .e .given .1) (c .before .before .before .count-answer .ensures) (c .before .if1 .left) (c .leave .ensures)
 
 pub answer-spec : {M : Type 1} → statement M
 answer-spec =

@@ -19,7 +19,7 @@ abbrev μ-loop : tie.MeasureT-loop
 
 -- src/lib.rt:180:5
 loop-holds : tie.Need-loop-holds Inv-loop μ-loop
-loop-holds c = let p = c .before .before .before .pre in (refl, refl, midway-start _ _ _ _ _ _ _ (p .0) (p .1 .0) (p .1 .1 .0) (p .1 .1 .1))
+loop-holds c = let p = c .before .before .before .pre in (refl, refl, midway-start _ _ _ _ _ _ _ _ (p .1 .1 .1 .0) (p .0) (p .1 .0) (p .1 .1 .0) (p .1 .1 .1 .1))
 
 -- src/lib.rt:181:15
 turn-requires : tie.Need-turn-requires Inv-loop μ-loop

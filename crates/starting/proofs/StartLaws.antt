@@ -6,7 +6,7 @@ use mathlib.Core.List.{List, [], _∷_, map}
 use Prim.Native.Nat.{ℕ, zero, suc, _+_, _-_, _*_, _/_, _≤_, _<_}
 use native.Mathlib.Omega.{arith}
 use native.Mathlib.Nat.{add-zero, sub-zero}
-use lib.ListN.{length, getD, set, take, replicate, getD-replicate, length-replicate}
+use lib.ListN.{length, getD, take, replicate}
 use Rattle.book.specs.Records.{field, records, lastRecord}
 use Rattle.book.specs.Kinds.{kindAt, isGoal}
 use Rattle.book.specs.Scoped.{ScopedGoal}
@@ -16,10 +16,15 @@ use Rattle.book.proofs.AcceptedScoped.{has-records, last-below, last-question, 
 use Rattle.book.proofs.Pointers.{question-fields, question-goal}
 use Rattle.machine.specs.Machine.{Force, Todo, Branch, Thread, solving, added, todo}
 use Rattle.machine.specs.Store.{Entry, open-entry}
-use Rattle.machine.specs.declared.Outcome.the-variants.{Ended}
-use Rattle.machine.specs.declared.Reply.{Reply}
-use Rattle.machine.specs.Run.{Result, start}
-use Rattle.machine.specs.Call.{filledBuffer, runOf, accepted}
+use Rattle.machine.specs.Run.{start}
+use Rattle.machine.specs.Call.{noCounts}
+use Rattle.machine.specs.declared.Tally.{Tally}
+use Rattle.words.proofs.StackLaws.{keeps-narrow}
+use Rattle.index.specs.Runs.{ClauseRun}
+use Rattle.index.specs.Index.{IndexedFrom}
+use Rattle.index.proofs.IndexLaws.{made-all, indexed-same}
+use Rattle.branch.specs.Seeking.{OwnIndexed}
+use Rattle.branch.proofs.FromScoped.{own-ready}
 use Rattle.words.specs.Words.{termWord, entryW, storeOf}
 use Rattle.words.specs.Good.{Slots}
 use Rattle.words.specs.Frame.{Keeps}
@@ -29,9 +34,8 @@ use Rattle.branch.proofs.TakeLaws.{put-outside, cell-word}
 use Rattle.steps.specs.declared.Regs.{Regs}
 use Rattle.steps.specs.Search.{topsOf, Stands, Stands.in-hand}
 use Rattle.answers.specs.Numbers.{NoNumbers}
-use Rattle.running.specs.declared.Ran.{Ran}
 use Rattle.running.specs.Turns.{Taken}
-use Rattle.engine.specs.Start.{startWords, startRegs}
+use Rattle.starting.specs.Start.{startWords, startRegs, Ready}
 
 -- slots that are all 0 are a store with every entry open
 open-entry-is : (book : List ℕ) (w : ℕ) → w ≡ 0 → entryW book w ≡ open-entry
@@ -49,7 +53,7 @@ made-is : (book : List ℕ) → startRegs book .made ≡ field book (lastRecord 
 unfolding startRegs
 made-is book = refl
 
-module _ (book : List ℕ) (A : Accepted book) (ws : List ℕ) (size : length ws ≡ 16384) (z : (k : ℕ) → k < 16384 → getD ws k 0 ≡ 0) where
+module _ (book : List ℕ) (A : Accepted book) (ws : List ℕ) (size : length ws ≡ 16384) (z : (k : ℕ) → k < 64 → getD ws k 0 ≡ 0) (numbers : NoNumbers ws) (I : OwnIndexed book ws) where
   abbrev last : ℕ
   last = lastRecord book
 
@@ -75,7 +79,11 @@ module _ (book : List ℕ) (A : Accepted book) (ws : List ℕ) (size : length ws
   above = put-outside 13568 15616 1 (termWord goal 0) 0 0 ws (inl (omega arith))
 
   pub start-numbers : NoNumbers (startWords book ws)
-  start-numbers v l = above .same (13568 + v) (omega arith) (omega arith) ∙ z (13568 + v) (omega arith)
+  start-numbers v l = above .same (13568 + v) (omega arith) (omega arith) ∙ numbers v l
+
+  -- the index is not touched
+  pub start-indexed : OwnIndexed book (startWords book ws)
+  start-indexed = indexed-same book (ownRun book .first) (ownRun book .count) (own-ready book A .count-small) (keeps-narrow (omega arith) (omega arith) below) I
 
   slot-zero : (k : ℕ) → k < made → getD (startWords book ws) k 0 ≡ 0
   slot-zero k l = let m = made-few in below .same k (omega arith) (omega arith) ∙ z k (omega arith)
@@ -149,27 +157,40 @@ module _ (book : List ℕ) (A : Accepted book) where
   unfolding startRegs startWords termWord records lastRecord
   set-up-done goal unknowns ws ws′ a b e = (rw b refl, e ∙ rw (a, add-zero (4096 * (field book (length book / 16 - 1) 3 + 1))) refl)
 
--- WHAT THE RUN ASKS FOR
-pub run-ready : (book : List ℕ) (wanted : ℕ) (ws ws′ out out′ : List ℕ) (r : Regs) → Accepted book → (length ws ≡ 16384) × (length out ≤ 65536) × (1 ≤ wanted) × (wanted ≤ 64)
-    → ws ≡ replicate (length ws) 0 → r ≡ startRegs book → ws′ ≡ startWords book ws → out′ ≡ replicate (length out) 0
-    → Taken book (r .made) wanted (length out′) × (Stands book ws′ r (start (questionOf book) .thread ∷ []) × (NoNumbers ws′ × (out′ ≡ replicate (length out′) 0)))
-run-ready book wanted ws ws′ out out′ r A h z e w o =
-    let n : length out′ ≡ length out = ap length o ∙ length-replicate {A = ℕ} (length out) 0 in
-    let at : (k : ℕ) → k < 16384 → getD ws k 0 ≡ 0 = λ k l. ap (λ (x : List ℕ). getD x k 0) z ∙ getD-replicate (length ws) k 0 0 (omega (arith, h .0)) in (
-      record {
-        accepted = A;
-        unknowns-are = rw e (made-is book);
-        wanted-some = h .2;
-        wanted-most = h .3;
-        size-most = omega (arith, h .1);
-      },
-      (rw (w, e) (stands-start book A ws (h .0) at), (rw w (start-numbers book A ws (h .0) at), o ∙ ap (λ (k : ℕ). replicate k 0) (sym n))),
-    )
+  pub run-clauses : (first n : ℕ) → first ≡ field book (length book / 16 - 1) 1 → n ≡ field book (length book / 16 - 1) 2 → ClauseRun book first n × ((first < 4096) × (n ≤ 1024))
+  unfolding records lastRecord
+  run-clauses first n a b = let O = own-ready book A in rw (a, b) (O .run, (O .first-small, O .count-small))
 
--- WHAT IS LEFT AFTER IT
-pub run-done : (book : List ℕ) (budget wanted n m words size : ℕ) (x : Ran) (ws out : List ℕ)
-    → (x .ending ≡ runOf book budget wanted n .ending) × (x .tally ≡ runOf book budget wanted n .tally) → out ≡ filledBuffer n (runOf book budget wanted n .lines) → n ≡ size → ws ≡ replicate m 0 → m ≡ words
-    → (record { outcome = Ended (x .ending); tally = x .tally } ≡ accepted words size (runOf book budget wanted size) .reply)
-    × ((ws ≡ accepted words size (runOf book budget wanted size) .workspace) × (out ≡ accepted words size (runOf book budget wanted size) .out))
-unfolding accepted
-run-done book budget wanted n m words size x ws out e o h z k = rw (← h, ← k) (rw (e .0, e .1) refl, (z, o))
+  pub own-indexed : (first n : ℕ) (ws ws′ : List ℕ) → first ≡ field book (length book / 16 - 1) 1 → n ≡ field book (length book / 16 - 1) 2
+      → IndexedFrom book first n 0 ws ws′ → IndexedFrom book (ownRun book .first) (ownRun book .count) 0 ws ws′
+  unfolding records lastRecord
+  own-indexed first n ws ws′ a b I = rw (a, b) at I
+
+-- WHAT THE RUN ASKS FOR
+module _ (book : List ℕ) (wanted budget : ℕ) (ws ws₁ ws₂ out : List ℕ) (r : Regs) (so : Tally) (R : Ready book ws out wanted budget so)
+    (I : IndexedFrom book (ownRun book .first) (ownRun book .count) 0 ws ws₁) (e : r ≡ startRegs book) (w : ws₂ ≡ startWords book ws₁) where
+  size-here : length ws₁ ≡ 16384
+  size-here = I .below .size ∙ R .size
+
+  open-here : (k : ℕ) → k < 64 → getD ws₁ k 0 ≡ 0
+  open-here k l = I .below .same k (omega arith) (omega arith) ∙ R .open-slots k l
+
+  numbers-here : NoNumbers ws₁
+  numbers-here v l = I .above .same (13568 + v) (omega (arith, own-ready book (R .accepted) .count-small)) (omega arith) ∙ R .numbers v l
+
+  indexed-here : OwnIndexed book ws₁
+  indexed-here = made-all book (ownRun book .first) (ownRun book .count) ws ws₁ I
+
+  pub run-ready : Taken book (r .made) wanted (length out) × (Stands book ws₂ r (start (questionOf book) .thread ∷ []) × ((NoNumbers ws₂ × OwnIndexed book ws₂) × ((so ≡ noCounts) × (out ≡ replicate (length out) 0))))
+  run-ready = (
+    record {
+      accepted = R .accepted;
+      unknowns-are = rw e (made-is book);
+      wanted-some = R .wanted-some;
+      wanted-most = R .wanted-most;
+      size-most = R .room;
+    },
+    (rw (w, e) (stands-start book (R .accepted) ws₁ size-here open-here numbers-here indexed-here),
+    ((rw w (start-numbers book (R .accepted) ws₁ size-here open-here numbers-here indexed-here), rw w (start-indexed book (R .accepted) ws₁ size-here open-here numbers-here indexed-here)),
+    (R .fresh, R .blank))),
+  )

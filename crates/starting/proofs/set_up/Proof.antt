@@ -1,11 +1,11 @@
 use Rattle.words.proofs.FromAccepted.{readable}
 use native.Mathlib.Omega.{arith}
-use Rattle.engine.proofs.StartLaws.{last-ready, set-up-done}
+use Rattle.starting.proofs.StartLaws.{last-ready, set-up-done}
 use borrow.Author.Needs.{needs}
-use Rattle.engine.proofs.set_up.Statement.{statement}
-use Rattle.engine.proofs.set_up.Tie as tie
-use Rattle.engine.proofs.set_up.Reads as reads
-use Rattle.engine.proofs.set_up.Lts as lts
+use Rattle.starting.proofs.set_up.Statement.{statement}
+use Rattle.starting.proofs.set_up.Tie as tie
+use Rattle.starting.proofs.set_up.Reads as reads
+use Rattle.starting.proofs.set_up.Lts as lts
 use Rattle.branch.proofs.put_cell.Reads as put-cell-reads
 use Rattle.words.proofs.field.Reads as field-reads
 

@@ -1,2 +1,0 @@
--- The start of a run in the workspace.
-pub mod Start

@@ -1,0 +1,2 @@
+-- Laws of the start.
+pub mod StartLaws

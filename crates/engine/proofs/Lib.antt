@@ -1,3 +1,3 @@
--- Laws of the start, and of the verdict.
-pub mod StartLaws
+-- Laws of an accepted call, and of the verdict.
+pub mod AcceptedLaws
 pub mod VerdictLaws

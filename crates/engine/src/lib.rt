@@ -4,36 +4,10 @@ ghost use Prim.Native.Nat.{_≤_};
 ghost use lib.ListN.{length, replicate};
 ghost use Rattle.book.proofs.Accepted.{Accepted};
 ghost use Rattle.machine.specs.Call.{call, runOf, accepted};
-ghost use Rattle.engine.specs.Start.{startWords, startRegs};
 use book::Verdict;
 use machine::Outcome;
 use machine::Reply;
 use machine::Tally;
-use steps::Regs;
-
-// The question's goal is put into the first goal cell, and its unknowns are the variables that are made.
-fn set_up(book: &[u8], ws: &mut [u32]) -> Regs
-    requires { ⌜ Accepted (now book) ⌝ }
-    requires { ⌜ length (now ws) ≡ 16384 ⌝ }
-    ensures { λ r. ⌜ r ≡ startRegs (now (book .entry)) ⌝ }
-    ensures { λ r. ⌜ now (ws .exit) ≡ startWords (now (book .entry)) (now (ws .entry)) ⌝ }
-{
-    let last = (book.len() / 16 - 1) as u32;
-    let goal = words::field(book, last, 3);
-    let unknowns = words::field(book, last, 4);
-    branch::put_cell(ws, 1, 4096 * (goal + 1), 0, 0);
-    Regs {
-        made: unknowns,
-        trail: 0,
-        cells: 2,
-        programs: 1,
-        alternatives: 0,
-        cell: 1,
-        taken: 0,
-        supposed: false,
-        solving: true,
-    }
-}
 
 // A call that is not refused, on a workspace that is all zero.
 fn run_accepted(book: &[u8], budget: u32, wanted: u32, ws: &mut [u32], out: &mut [u8]) -> Reply
@@ -45,8 +19,7 @@ fn run_accepted(book: &[u8], budget: u32, wanted: u32, ws: &mut [u32], out: &mut
     ensures { λ r. ⌜ now (out .exit) ≡ accepted (length (now (ws .entry))) (length (now (out .entry))) (runOf (now (book .entry)) budget wanted (length (now (out .entry)))) .out ⌝ }
 {
     answers::clear(out);
-    let r = set_up(book, ws);
-    let x = running::run(book, ws, out, r, r.made, wanted, budget);
+    let x = lending::counted_run(book, ws, out, wanted, budget);
     pointing::clear(ws);
     let ending = x.ending;
     let tally = x.tally;

@@ -25,9 +25,9 @@ use Rattle.machine.proofs.Tally as T
 use Rattle.machine.proofs.Tally.Laws as T′
 use Rattle.machine.proofs.Ending as E
 use Rattle.machine.proofs.Ending.Laws as E′
-use Rattle.standin.specs.declared.Ran.{Ran}
-use Rattle.standin.proofs.Ran as R
-use Rattle.standin.proofs.Ran.Laws as R′
+use Rattle.running.specs.declared.Ran.{Ran}
+use Rattle.running.proofs.Ran as R
+use Rattle.running.proofs.Ran.Laws as R′
 
 -- a tally's machine value
 abbrev pub mach : Tally → Val

@@ -1,9 +1,9 @@
 // One tally of units, answers and assumed answers is lent to the run and changed by it.
-ghost use Rattle.standin.specs.Whole.{Ready, After};
+ghost use Rattle.starting.specs.Start.{Ready, After};
 ghost use Rattle.machine.specs.Call.{noCounts};
 use machine::Ending;
 use machine::Tally;
-use standin::Ran;
+use running::Ran;
 
 // The run, with the tally lent to it: thin over the run that has it by value.
 fn lent_run(
@@ -17,7 +17,7 @@ fn lent_run(
     requires { ⌜ Ready (now book) (now ws) (now out) wanted budget (now tally) ⌝ }
     ensures { λ e. ⌜ After (now (book .entry)) (now (ws .entry)) (now (out .entry)) wanted budget (now (tally .entry)) e (now (tally .exit)) (now (ws .exit)) (now (out .exit)) ⌝ }
 {
-    let x = standin::whole_run(book, ws, out, wanted, budget, *tally);
+    let x = starting::whole_run(book, ws, out, wanted, budget, *tally);
     *tally = x.tally;
     x.ending
 }

@@ -190,7 +190,11 @@ module _ (book : List ℕ) (wanted budget : ℕ) (ws ws₁ ws₂ out : List ℕ)
       wanted-most = R .wanted-most;
       size-most = R .room;
     },
-    (rw (w, e) (stands-start book (R .accepted) ws₁ size-here open-here numbers-here indexed-here),
-    ((rw w (start-numbers book (R .accepted) ws₁ size-here open-here numbers-here indexed-here), rw w (start-indexed book (R .accepted) ws₁ size-here open-here numbers-here indexed-here)),
-    (R .fresh, R .blank))),
+    (
+      rw (w, e) (stands-start book (R .accepted) ws₁ size-here open-here numbers-here indexed-here),
+      (
+        (rw w (start-numbers book (R .accepted) ws₁ size-here open-here numbers-here indexed-here), rw w (start-indexed book (R .accepted) ws₁ size-here open-here numbers-here indexed-here)),
+        (R .fresh, R .blank),
+      ),
+    ),
   )

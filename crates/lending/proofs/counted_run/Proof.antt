@@ -50,9 +50,9 @@ use Rattle.machine.proofs.Tally as T
 use Rattle.machine.proofs.Tally.Laws as T′
 use Rattle.machine.proofs.Ending as E
 use Rattle.machine.proofs.Ending.Laws as E′
-use Rattle.standin.specs.Whole.{Ready, After}
-use Rattle.standin.proofs.Ran as R
-use Rattle.standin.proofs.Ran.Laws as R′
+use Rattle.starting.specs.Start.{Ready, After}
+use Rattle.running.proofs.Ran as R
+use Rattle.running.proofs.Ran.Laws as R′
 use Rattle.lending.proofs.Local.{mach, is-none, ran, is-ran, tally-in, tally-out}
 use Rattle.lending.proofs.lent_run as g
 use Rattle.lending.proofs.lent_run.Symbol as g-def

@@ -47,14 +47,14 @@ use Rattle.machine.proofs.Tally as T
 use Rattle.machine.proofs.Tally.Laws as T′
 use Rattle.machine.proofs.Ending as E
 use Rattle.machine.proofs.Ending.Laws as E′
-use Rattle.standin.specs.Whole.{Ready, After}
-use Rattle.standin.specs.declared.Ran.{Ran}
-use Rattle.standin.proofs.Ran as R
-use Rattle.standin.proofs.Ran.Laws as R′
-use Rattle.standin.proofs.whole_run as g
-use Rattle.standin.proofs.whole_run.Symbol as g-def
-use Rattle.standin.proofs.whole_run.Symbol.{name as #standin·whole-run}
-use Rattle.standin.proofs.whole_run.Met as g-thm
+use Rattle.starting.specs.Start.{Ready, After}
+use Rattle.running.specs.declared.Ran.{Ran}
+use Rattle.running.proofs.Ran as R
+use Rattle.running.proofs.Ran.Laws as R′
+use Rattle.starting.proofs.whole_run as g
+use Rattle.starting.proofs.whole_run.Symbol as g-def
+use Rattle.starting.proofs.whole_run.Symbol.{name as #starting·whole-run}
+use Rattle.starting.proofs.whole_run.Met as g-thm
 use Rattle.lending.proofs.lent_run.Key.{name as #lending·lent-run}
 use Rattle.lending.proofs.lent_run as f
 use Rattle.lending.proofs.lent_run.Statement as stated
@@ -151,7 +151,7 @@ module _ {M : Type 1} (𝓤 : URA M) (H : Heap 𝓤) (A : Atoms 𝓤) (W : Given
       qed W Passed ∵ says ! ready $
       nothing ! $ move ! (1 ∷ 2 ∷ 3 ∷ 0 ∷ []) $ group ! 4 $ frame ! $ nothing ! $ move ! (1 ∷ 2 ∷ 3 ∷ 4 ∷ 5 ∷ 6 ∷ 0 ∷ []) $ done !
 
-  module _ (C : Calls 𝓤 H) (Λ : Loops 𝓤 H) (fm : FmC 𝓤 H (W .laws) C) (known : Triple 𝓤 (C #standin·whole-run) (G 𝓤 H A at-mem run)) where
+  module _ (C : Calls 𝓤 H) (Λ : Loops 𝓤 H) (fm : FmC 𝓤 H (W .laws) C) (known : Triple 𝓤 (C #starting·whole-run) (G 𝓤 H A at-mem run)) where
     walk : Room u8 (length (book .now)) → Room u32 (length (ws .now)) → Room u8 (length (out .now)) → wanted < 2 ^ 32 → budget < 2 ^ 32
         → ent 𝓤 (onEntry 𝓤 H A f.signature (κb, (κw, (κo, (κt, tt)))) (qb, (qw, (qo, (qt, tt)))) a vals) (WpFn 𝓤 H C Λ code.function (vb ∷ vw ∷ vo ∷ vint w32 wanted ∷ vint w32 budget ∷ vt ∷ []) Post)
     walk rb rw′ ro fits-wanted fits-budget =
@@ -199,7 +199,7 @@ module _ {M : Type 1} (𝓤 : URA M) (H : Heap 𝓤) (A : Atoms 𝓤) (W : Given
         keep ! (5 ∷ 3 ∷ 1 ∷ 2 ∷ 8 ∷ 6 ∷ 0 ∷ []) $ by ! (exits r (ls .1 .0) (ls .1 .1 .0) _ e lw lo)))))))))))))))))))))))
 
 module _ {M : Type 1} (𝓤 : URA M) (H : Heap 𝓤) (A : Atoms 𝓤) (W : Given 𝓤 H A) (at-mem : Memory → SProp 𝓤) (run : Routine → Fun 𝓤) where
-  lent-run-walks : (C : Calls 𝓤 H) (Λ : Loops 𝓤 H) → FmC 𝓤 H (W .laws) C → Triple 𝓤 (C #standin·whole-run) (G 𝓤 H A at-mem run) → Walks 𝓤 H A f.ended stayed (WpFn 𝓤 H C Λ code.function) (f.clauses 𝓤 H A at-mem run)
+  lent-run-walks : (C : Calls 𝓤 H) (Λ : Loops 𝓤 H) → FmC 𝓤 H (W .laws) C → Triple 𝓤 (C #starting·whole-run) (G 𝓤 H A at-mem run) → Walks 𝓤 H A f.ended stayed (WpFn 𝓤 H C Λ code.function) (f.clauses 𝓤 H A at-mem run)
   lent-run-walks C Λ fm known = walked 𝓤 H A f.ended stayed (f.clauses 𝓤 H A at-mem run) (WpFn 𝓤 H C Λ code.function)
       (λ κs. (slice-vals, (slice-vals, (slice-vals, (uint-vals w32, (uint-vals w32, (ptr-vals, tt)))))))
       (λ κs. (shr-slice-tells (named 0) (κs .0) u8, (mut-slice-tells (named 1) (κs .1 .0) u32, (mut-slice-tells (named 2) (κs .1 .1 .0) u8, (uint-tells w32, (uint-tells w32, (mut-tells (named 3) (κs .1 .1 .1 .0) T.the-row, tt)))))))
@@ -220,7 +220,7 @@ module _ {M : Type 1} (𝓤 : URA M) (H : Heap 𝓤) (A : Atoms 𝓤) (W : Given
   )
 
 lent-run-meets : {M : Type 1} (𝓤 : URA M) (H : Heap 𝓤) (A : Atoms 𝓤) (W : Given 𝓤 H A) (at-mem : Memory → SProp 𝓤) (run : Routine → Fun 𝓤) (𝓣 : Tables 𝓤 H)
-    → Triple 𝓤 (𝓣 .C #standin·whole-run) (G 𝓤 H A at-mem run)
+    → Triple 𝓤 (𝓣 .C #starting·whole-run) (G 𝓤 H A at-mem run)
     → Meets 𝓤 H A f.signature (WpFn 𝓤 H (𝓣 .C) (𝓣 .Λ) code.function) (f.spec 𝓤 H A at-mem run)
 lent-run-meets 𝓤 H A W at-mem run 𝓣 known = walk-meets 𝓤 H A f.ended stayed W (goes 𝓤 H A W at-mem run) (f.clauses 𝓤 H A at-mem run) (WpFn 𝓤 H (𝓣 .C) (𝓣 .Λ) code.function) (WpFn-mono 𝓤 H (W .laws) 𝓣 code.function)
     (lent-run-walks 𝓤 H A W at-mem run (𝓣 .C) (𝓣 .Λ) (fmOf 𝓤 H (W .laws) 𝓣) known)
@@ -231,4 +231,4 @@ lent-run-spec 𝓤 H 𝓜 𝓖 𝓡 =
     entered 𝓤 H (tripleOf 𝓤 H (𝓖 .A) f.signature (f.spec 𝓤 H (𝓖 .A) (𝓜 .mem) (𝓡 .run)))
     (tables 𝓤 H 𝓜 𝓡 code.env .C) (tables 𝓤 H 𝓜 𝓡 code.env .Λ) #lending·lent-run code.function (code.unfolded 𝓤 H 𝓜 𝓡)
     (lent-run-meets 𝓤 H (𝓖 .A) (givenOf 𝓤 H 𝓜 𝓖) (𝓜 .mem) (𝓡 .run) (tablesOf 𝓤 H 𝓜 (tables 𝓤 H 𝓜 𝓡 code.env))
-    (cited 𝓤 H (G 𝓤 H (𝓖 .A) (𝓜 .mem) (𝓡 .run)) 𝓜 𝓡 code.env #standin·whole-run g-def.routine code.calls-standin·whole-run (g-thm.met 𝓤 H 𝓜 𝓖 𝓡)))
+    (cited 𝓤 H (G 𝓤 H (𝓖 .A) (𝓜 .mem) (𝓡 .run)) 𝓜 𝓡 code.env #starting·whole-run g-def.routine code.calls-starting·whole-run (g-thm.met 𝓤 H 𝓜 𝓖 𝓡)))

@@ -29,7 +29,7 @@ add-put-cell-2 c = search needs
 
 -- src/lib.rt:106:9
 put-cell-requires : tie.Need-put-cell-requires
-put-cell-requires c κs = search needs
+put-cell-requires c κs = let p = c .before .before .before .before .before .before .before .pre .1 in (p .2, p .3, p .4, p .5)
 
 -- src/lib.rt:109:20
 add-t11 : tie.Need-add-t11

@@ -2,72 +2,55 @@ use borrow.Author.Needs.{needs}
 use Rattle.machine.specs.Run.{endingNumber}
 use Rattle.capi.proofs.ending_number.Statement.{statement}
 use Rattle.capi.proofs.ending_number.Tie as tie
-use Rattle.capi.proofs.ending_number.Reads as reads
-use Rattle.capi.proofs.ending_number.Lts as lts
 
--- src/lib.rt:15:29
 enum-told : tie.Need-enum-told
 enum-told c = search needs
 
--- src/lib.rt:16:27
 enum-told-2 : tie.Need-enum-told-2
 enum-told-2 c = search needs
 
--- src/lib.rt:17:25
 enum-known-e : tie.Need-enum-known-e
 enum-known-e c = search needs
 
--- src/lib.rt:18:30
 enum-told-3 : tie.Need-enum-told-3
 enum-told-3 c = search needs
 
--- src/lib.rt:19:29
 enum-told-4 : tie.Need-enum-told-4
 enum-told-4 c = search needs
 
--- src/lib.rt:20:33
 enum-told-5 : tie.Need-enum-told-5
 enum-told-5 c = search needs
 
--- src/lib.rt:21:29
 enum-told-6 : tie.Need-enum-told-6
 enum-told-6 c = search needs
 
--- src/lib.rt:22:30
 enum-told-7 : tie.Need-enum-told-7
 enum-told-7 c = search needs
 
--- src/lib.rt:11:1
 returns : tie.Need-returns
 unfolding endingNumber
 returns c = cc
 
--- src/lib.rt:11:1
 returns-2 : tie.Need-returns-2
 unfolding endingNumber
 returns-2 c = cc
 
--- src/lib.rt:11:1
 returns-3 : tie.Need-returns-3
 unfolding endingNumber
 returns-3 c = cc
 
--- src/lib.rt:11:1
 returns-4 : tie.Need-returns-4
 unfolding endingNumber
 returns-4 c = cc
 
--- src/lib.rt:11:1
 returns-5 : tie.Need-returns-5
 unfolding endingNumber
 returns-5 c = cc
 
--- src/lib.rt:11:1
 returns-6 : tie.Need-returns-6
 unfolding endingNumber
 returns-6 c = cc
 
--- src/lib.rt:11:1
 returns-7 : tie.Need-returns-7
 unfolding endingNumber
 returns-7 c = cc

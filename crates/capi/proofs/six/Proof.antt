@@ -3,35 +3,25 @@ use mathlib.Core.Path.{sym}
 use Rattle.capi.proofs.SixLaws.{six-declined, six-ended}
 use Rattle.capi.proofs.six.Statement.{statement}
 use Rattle.capi.proofs.six.Tie as tie
-use Rattle.capi.proofs.six.Reads as reads
-use Rattle.capi.proofs.six.Lts as lts
-use Rattle.capi.proofs.ending_number.Reads as ending-number-reads
 
--- src/lib.rt:33:27
 enum-known-outcome : tie.Need-enum-known-outcome
 enum-known-outcome c = search needs
 
--- src/lib.rt:33:37
 cast-t8 : tie.Need-cast-t8
 cast-t8 c = search needs
 
--- src/lib.rt:33:47
 cast-t9 : tie.Need-cast-t9
 cast-t9 c = search needs
 
--- src/lib.rt:34:24
 enum-known-outcome-2 : tie.Need-enum-known-outcome-2
 enum-known-outcome-2 c = search needs
 
--- src/lib.rt:34:37
 ending-number-requires : tie.Need-ending-number-requires
 ending-number-requires c κs = search needs
 
--- src/lib.rt:27:1
 returns : tie.Need-returns
 returns c = sym (six-declined _ _ _ (c .before .outcome .given .1))
 
--- src/lib.rt:27:1
 returns-2 : tie.Need-returns-2
 returns-2 c = rw (c .ending-number .ensures) (sym (six-ended _ _ (c .before .before .outcome2 .given .1)))
 

@@ -2,9 +2,6 @@ use Prim.Native.Nat.{_-_}
 use borrow.Author.Needs.{needs}
 use Rattle.cases.proofs.each.Statement.{statement}
 use Rattle.cases.proofs.each.Tie as tie
-use Rattle.cases.proofs.each.Reads as reads
-use Rattle.cases.proofs.each.Lts as lts
-use Rattle.cases.proofs.next.Reads as next-reads
 
 abbrev Inv-loop : tie.InvT-loop
 Inv-loop fd book₀ used₀ workspace₀ out₀ seen₀ wrong₀ at₀ book used workspace out seen wrong at = Unit {0}
@@ -12,31 +9,24 @@ Inv-loop fd book₀ used₀ workspace₀ out₀ seen₀ wrong₀ at₀ book used
 abbrev μ-loop : tie.MeasureT-loop
 μ-loop fd book₀ used₀ workspace₀ out₀ seen₀ wrong₀ at₀ book used workspace out seen wrong at = 1000000 - at
 
--- src/main.rt:303:5
 loop-holds : tie.Need-loop-holds Inv-loop μ-loop
 loop-holds c = search needs
 
--- src/main.rt:304:13
 next-requires : tie.Need-next-requires Inv-loop μ-loop
 next-requires c κs = search needs
 
--- src/main.rt:305:13
 returns : tie.Need-returns Inv-loop μ-loop
 returns c = search needs
 
--- src/main.rt:307:9
 add-at : tie.Need-add-at Inv-loop μ-loop
 add-at c = search needs
 
--- src/main.rt:303:5
 loop-less : tie.Need-loop-less Inv-loop μ-loop
 loop-less c = search needs
 
--- src/main.rt:303:5
 loop-again : tie.Need-loop-again Inv-loop μ-loop
 loop-again c = search needs
 
--- src/main.rt:293:1
 returns-2 : tie.Need-returns-2 Inv-loop μ-loop
 returns-2 c = search needs
 

@@ -5,9 +5,6 @@ use native.Mathlib.Omega.{arith}
 use borrow.Author.Needs.{needs}
 use Rattle.cases.proofs.fill_words.Statement.{statement}
 use Rattle.cases.proofs.fill_words.Tie as tie
-use Rattle.cases.proofs.fill_words.Reads as reads
-use Rattle.cases.proofs.fill_words.Lts as lts
-use Rattle.cases.proofs.first_word.Reads as first-word-reads
 
 abbrev Inv-loop : tie.InvT-loop
 Inv-loop workspace₀ i₀ workspace i = (i ≤ length workspace) × (length workspace ≡ length workspace₀)
@@ -15,39 +12,30 @@ Inv-loop workspace₀ i₀ workspace i = (i ≤ length workspace) × (length wor
 abbrev μ-loop : tie.MeasureT-loop
 μ-loop workspace₀ i₀ workspace i = length workspace - i
 
--- src/main.rt:83:5
 loop-holds : tie.Need-loop-holds Inv-loop μ-loop
 loop-holds c = search needs
 
--- src/main.rt:84:24
 first-word-requires : tie.Need-first-word-requires Inv-loop μ-loop
 first-word-requires c κs = search needs
 
--- src/main.rt:84:9
 mul-workspace : tie.Need-mul-workspace Inv-loop μ-loop
 mul-workspace c = search needs
 
--- src/main.rt:84:9
 slice-write-workspace : tie.Need-slice-write-workspace Inv-loop μ-loop
 slice-write-workspace c = search needs
 
--- src/main.rt:85:9
 add-i : tie.Need-add-i Inv-loop μ-loop
 add-i c = search needs
 
--- src/main.rt:83:5
 loop-less : tie.Need-loop-less Inv-loop μ-loop
 loop-less c = simp length-set (omega arith)
 
--- src/main.rt:83:5
 loop-again : tie.Need-loop-again Inv-loop μ-loop
 loop-again c = simp length-set (omega arith)
 
--- src/main.rt:81:1
 same-length : tie.Need-same-length Inv-loop μ-loop
 same-length c = search needs
 
--- src/main.rt:81:1
 returns : tie.Need-returns Inv-loop μ-loop
 returns c = search needs
 

@@ -3,66 +3,46 @@ use lib.Seq.{length-take-le}
 use borrow.Author.Needs.{needs}
 use Rattle.cases.proofs.other_size.Statement.{statement}
 use Rattle.cases.proofs.other_size.Tie as tie
-use Rattle.cases.proofs.other_size.Reads as reads
-use Rattle.cases.proofs.other_size.Lts as lts
-use Rattle.cases.proofs.counted.Reads as counted-reads
-use Rattle.cases.proofs.place.Reads as place-reads
-use Rattle.cases.proofs.right.Reads as right-reads
-use Rattle.cases.proofs.say.Reads as say-reads
 
--- src/main.rt:371:30
 slice-aggregate-right : tie.Need-slice-aggregate-right
 slice-aggregate-right c = search needs
 
--- src/main.rt:371:35
 slice-aggregate-right-2 : tie.Need-slice-aggregate-right-2
 slice-aggregate-right-2 c = search needs
 
--- src/main.rt:371:40
 slice-relend-prefix-right : tie.Need-slice-relend-prefix-right
 slice-relend-prefix-right c = search needs
 
--- src/main.rt:371:40
 slice-aggregate-right-3 : tie.Need-slice-aggregate-right-3
 slice-aggregate-right-3 c = sym (length-take-le _ _ (search needs))
 
--- src/main.rt:371:13
 right-requires : tie.Need-right-requires
 right-requires c κs = search needs
 
--- src/main.rt:372:13
 slice-aggregate-say : tie.Need-slice-aggregate-say
 slice-aggregate-say c = search needs
 
--- src/main.rt:372:9
 say-requires : tie.Need-say-requires
 say-requires c κs = search needs
 
--- src/main.rt:373:9
 place-requires : tie.Need-place-requires
 place-requires c κs = search needs
 
--- src/main.rt:374:20
 cast-counted : tie.Need-cast-counted
 cast-counted c = search needs
 
--- src/main.rt:374:9
 counted-requires : tie.Need-counted-requires
 counted-requires c κs = search needs
 
--- src/main.rt:357:1
 same-length : tie.Need-same-length
 same-length c = search needs
 
--- src/main.rt:357:1
 same-length-2 : tie.Need-same-length-2
 same-length-2 c = search needs
 
--- src/main.rt:357:1
 returns : tie.Need-returns
 returns c = search needs
 
--- src/main.rt:357:1
 returns-2 : tie.Need-returns-2
 returns-2 c = search needs
 

@@ -3,9 +3,6 @@ use lib.ListN.{length}
 use borrow.Author.Needs.{needs}
 use Rattle.cases.proofs.wrong_byte.Statement.{statement}
 use Rattle.cases.proofs.wrong_byte.Tie as tie
-use Rattle.cases.proofs.wrong_byte.Reads as reads
-use Rattle.cases.proofs.wrong_byte.Lts as lts
-use Rattle.cases.proofs.byte_wanted.Reads as byte-wanted-reads
 
 abbrev Inv-loop : tie.InvT-loop
 Inv-loop out kept used i₀ i = Unit {0}
@@ -13,35 +10,27 @@ Inv-loop out kept used i₀ i = Unit {0}
 abbrev μ-loop : tie.MeasureT-loop
 μ-loop out kept used i₀ i = length out - i
 
--- src/main.rt:122:5
 loop-holds : tie.Need-loop-holds Inv-loop μ-loop
 loop-holds c = search needs
 
--- src/main.rt:123:12
 shared-slice-read-if1 : tie.Need-shared-slice-read-if1 Inv-loop μ-loop
 shared-slice-read-if1 c = search needs
 
--- src/main.rt:123:22
 byte-wanted-requires : tie.Need-byte-wanted-requires Inv-loop μ-loop
 byte-wanted-requires c κs = search needs
 
--- src/main.rt:124:13
 returns : tie.Need-returns Inv-loop μ-loop
 returns c = search needs
 
--- src/main.rt:126:9
 add-i : tie.Need-add-i Inv-loop μ-loop
 add-i c = search needs
 
--- src/main.rt:122:5
 loop-less : tie.Need-loop-less Inv-loop μ-loop
 loop-less c = search needs
 
--- src/main.rt:122:5
 loop-again : tie.Need-loop-again Inv-loop μ-loop
 loop-again c = search needs
 
--- src/main.rt:120:1
 returns-2 : tie.Need-returns-2 Inv-loop μ-loop
 returns-2 c = search needs
 

@@ -3,9 +3,6 @@ use lib.ListN.{length}
 use borrow.Author.Needs.{needs}
 use Rattle.cases.proofs.wrong_word.Statement.{statement}
 use Rattle.cases.proofs.wrong_word.Tie as tie
-use Rattle.cases.proofs.wrong_word.Reads as reads
-use Rattle.cases.proofs.wrong_word.Lts as lts
-use Rattle.cases.proofs.word_wanted.Reads as word-wanted-reads
 
 abbrev Inv-loop : tie.InvT-loop
 Inv-loop workspace kept i₀ i = Unit {0}
@@ -13,39 +10,30 @@ Inv-loop workspace kept i₀ i = Unit {0}
 abbrev μ-loop : tie.MeasureT-loop
 μ-loop workspace kept i₀ i = length workspace - i
 
--- src/main.rt:111:5
 loop-holds : tie.Need-loop-holds Inv-loop μ-loop
 loop-holds c = search needs
 
--- src/main.rt:112:12
 mul-if1 : tie.Need-mul-if1 Inv-loop μ-loop
 mul-if1 c = search needs
 
--- src/main.rt:112:12
 shared-slice-read-if1 : tie.Need-shared-slice-read-if1 Inv-loop μ-loop
 shared-slice-read-if1 c = search needs
 
--- src/main.rt:112:28
 word-wanted-requires : tie.Need-word-wanted-requires Inv-loop μ-loop
 word-wanted-requires c κs = search needs
 
--- src/main.rt:113:13
 returns : tie.Need-returns Inv-loop μ-loop
 returns c = search needs
 
--- src/main.rt:115:9
 add-i : tie.Need-add-i Inv-loop μ-loop
 add-i c = search needs
 
--- src/main.rt:111:5
 loop-less : tie.Need-loop-less Inv-loop μ-loop
 loop-less c = search needs
 
--- src/main.rt:111:5
 loop-again : tie.Need-loop-again Inv-loop μ-loop
 loop-again c = search needs
 
--- src/main.rt:109:1
 returns-2 : tie.Need-returns-2 Inv-loop μ-loop
 returns-2 c = search needs
 

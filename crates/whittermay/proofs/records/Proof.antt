@@ -2,10 +2,6 @@ use Prim.Native.Nat.{_-_}
 use borrow.Author.Needs.{needs}
 use Rattle.whittermay.proofs.records.Statement.{statement}
 use Rattle.whittermay.proofs.records.Tie as tie
-use Rattle.whittermay.proofs.records.Reads as reads
-use Rattle.whittermay.proofs.records.Lts as lts
-use Rattle.whittermay.proofs.line.Reads as line-reads
-use Rattle.whittermay.proofs.pair.Reads as pair-reads
 
 abbrev Inv-loop : tie.InvT-loop
 Inv-loop out k₀ k = Unit {0}
@@ -13,63 +9,48 @@ Inv-loop out k₀ k = Unit {0}
 abbrev μ-loop : tie.MeasureT-loop
 μ-loop out k₀ k = 4096 - k
 
--- src/main.rt:33:5
 loop-holds : tie.Need-loop-holds Inv-loop μ-loop
 loop-holds c = search needs
 
--- src/main.rt:34:30
 add-pair : tie.Need-add-pair Inv-loop μ-loop
 add-pair c = search needs
 
--- src/main.rt:34:13
 pair-requires : tie.Need-pair-requires Inv-loop μ-loop
 pair-requires c κs = search needs
 
--- src/main.rt:36:13
 returns : tie.Need-returns Inv-loop μ-loop
 returns c = search needs
 
--- src/main.rt:38:18
 pair-requires-2 : tie.Need-pair-requires-2 Inv-loop μ-loop
 pair-requires-2 c κs = search needs
 
--- src/main.rt:38:48
 add-pair-2 : tie.Need-add-pair-2 Inv-loop μ-loop
 add-pair-2 c = search needs
 
--- src/main.rt:38:38
 pair-requires-3 : tie.Need-pair-requires-3 Inv-loop μ-loop
 pair-requires-3 c κs = search needs
 
--- src/main.rt:38:66
 add-pair-3 : tie.Need-add-pair-3 Inv-loop μ-loop
 add-pair-3 c = search needs
 
--- src/main.rt:38:56
 pair-requires-4 : tie.Need-pair-requires-4 Inv-loop μ-loop
 pair-requires-4 c κs = search needs
 
--- src/main.rt:38:13
 line-requires : tie.Need-line-requires Inv-loop μ-loop
 line-requires c κs = search needs
 
--- src/main.rt:39:13
 returns-2 : tie.Need-returns-2 Inv-loop μ-loop
 returns-2 c = search needs
 
--- src/main.rt:41:9
 add-k : tie.Need-add-k Inv-loop μ-loop
 add-k c = search needs
 
--- src/main.rt:33:5
 loop-less : tie.Need-loop-less Inv-loop μ-loop
 loop-less c = search needs
 
--- src/main.rt:33:5
 loop-again : tie.Need-loop-again Inv-loop μ-loop
 loop-again c = search needs
 
--- src/main.rt:31:1
 returns-3 : tie.Need-returns-3 Inv-loop μ-loop
 returns-3 c = search needs
 

@@ -316,18 +316,25 @@ fn counted(seen: u32, wrong: u32) {
     say(b" wrong\n");
 }
 
-// A line for each group.
+// The line of a group that has cases.
+fn group_line(g: usize, seen: u32, wrong: u32) {
+    if seen == 0 {
+        return;
+    }
+    if g < 7 {
+        say(b"  ending ");
+        place(g);
+    } else {
+        say(b"  refusal ");
+        place(g - 6);
+    }
+    counted(seen, wrong);
+}
+
 fn groups(seen: [u32; 14], wrong: [u32; 14]) {
     let mut g = 0;
     while g < 14 {
-        if g < 7 {
-            say(b"  ending ");
-            place(g);
-        } else {
-            say(b"  refusal ");
-            place(g - 6);
-        }
-        counted(seen[g], wrong[g]);
+        group_line(g, seen[g], wrong[g]);
         g += 1;
     }
 }

@@ -1,5 +1,5 @@
 #!/usr/bin/env python3
-"""Writes data/compared.bin: the calls that document 01 lists under "Run and compared", in the layout that src/main.rt describes."""
+"""Writes data/compared.bin: the calls that document 01 lists under "Run and compared", in the layout that src/case.rt describes."""
 import os
 import struct
 

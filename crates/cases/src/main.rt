@@ -1,168 +1,23 @@
 // Runs every case of the files in data/ and compares the reply, every word of the workspace and every byte of the answer buffer, all of which start from
-// numbers that are not 0. A case is ten u32, low byte first: book length, wanted, budget, answer buffer length, kind, a, b, c, d, used length; then the book;
-// then the bytes that the answer buffer starts with afterwards. Kind 0 is refusal a at record b, kind 1 is a reply of ending a, b answers, c assumed, d units.
-ghost use Prim.Native.Nat.{_<_};
-use libc::STDOUT_FILENO;
+// numbers that are not 0.
+mod case;
+mod compare;
+mod report;
 
-struct Case {
-    length: usize,
-    wanted: u32,
-    budget: u32,
-    room: usize,
-    used: usize,
-    refused: bool,
-    a: u32,
-    b: u32,
-    c: u32,
-    d: u32,
-}
-
-fn wide(x: u8) -> u32
-    ensures { λ r. ⌜ r < 256 ⌝ }
-{
-    x as u32
-}
-
-// The u32 number k of a case's head.
-fn word(head: &[u8; 40], k: usize) -> u32 {
-    if k < 10 {
-        let i = 4 * k;
-        wide(head[i])
-            + 256 * wide(head[i + 1])
-            + 65536 * wide(head[i + 2])
-            + 16777216 * wide(head[i + 3])
-    } else {
-        0
-    }
-}
-
-fn case_of(head: &[u8; 40]) -> Case {
-    Case {
-        length: word(head, 0) as usize,
-        wanted: word(head, 1),
-        budget: word(head, 2),
-        room: word(head, 3) as usize,
-        used: word(head, 9) as usize,
-        refused: word(head, 4) == 0,
-        a: word(head, 5),
-        b: word(head, 6),
-        c: word(head, 7),
-        d: word(head, 8),
-    }
-}
-
-// The six numbers that the reply must have.
-fn six_wanted(c: Case) -> [u32; 6] {
-    if c.refused {
-        [c.a, c.b, 0, 0, 0, 0]
-    } else {
-        [0, 0, c.a, c.b, c.c, c.d]
-    }
-}
-
-fn same(r: [u32; 6], w: [u32; 6]) -> bool {
-    (r[0] == w[0])
-        & (r[1] == w[1])
-        & (r[2] == w[2])
-        & (r[3] == w[3])
-        & (r[4] == w[4])
-        & (r[5] == w[5])
-}
-
-// What word i and byte i are before the call: never 0.
-fn first_word(i: usize) -> u32 {
-    (i % 65521) as u32 + 1
-}
-
-fn first_byte(i: usize) -> u8 {
-    (i % 251) as u8 + 1
-}
-
-fn fill_words(workspace: &mut [u32]) {
-    let mut i = 0;
-    while i < workspace.len() {
-        workspace[i] = first_word(i);
-        i += 1;
-    }
-}
-
-fn fill_bytes(out: &mut [u8]) {
-    let mut i = 0;
-    while i < out.len() {
-        out[i] = first_byte(i);
-        i += 1;
-    }
-}
-
-fn word_wanted(kept: bool, i: usize) -> u32 {
-    if kept { first_word(i) } else { 0 }
-}
-
-fn byte_wanted(kept: bool, used: &[u8], i: usize) -> u8 {
-    if kept {
-        return first_byte(i);
-    }
-    if i < used.len() { used[i] } else { 0 }
-}
-
-// The first word that is not as it must be, or the number of words.
-fn wrong_word(workspace: &[u32], kept: bool) -> usize {
-    let mut i = 0;
-    while i < workspace.len() {
-        if workspace[i] != word_wanted(kept, i) {
-            return i;
-        }
-        i += 1;
-    }
-    i
-}
-
-fn wrong_byte(out: &[u8], kept: bool, used: &[u8]) -> usize {
-    let mut i = 0;
-    while i < out.len() {
-        if out[i] != byte_wanted(kept, used, i) {
-            return i;
-        }
-        i += 1;
-    }
-    i
-}
-
-fn say(text: &[u8]) {
-    io::write_all(STDOUT_FILENO, text);
-}
-
-fn number(n: u32) {
-    io::print_decimal(STDOUT_FILENO, n as u64);
-}
-
-fn place(n: usize) {
-    io::print_decimal(STDOUT_FILENO, n as u64);
-}
-
-fn six(r: [u32; 6]) {
-    let mut i = 0;
-    while i < 6 {
-        say(b" ");
-        number(r[i]);
-        i += 1;
-    }
-}
-
-// Case number `at` is wrong: the reply, the reply wanted, and the first word and byte that are wrong.
-fn detail(at: usize, reply: [u32; 6], want: [u32; 6], w: usize, b: usize) {
-    say(b"case ");
-    place(at);
-    say(b": reply");
-    six(reply);
-    say(b", wanted");
-    six(want);
-    say(b"; right up to word ");
-    place(w);
-    say(b" and byte ");
-    place(b);
-    say(b"\n");
-}
+use case::Case;
+use case::case_of;
+use case::group;
+use case::six_wanted;
+use compare::fill_bytes;
+use compare::fill_words;
+use compare::same;
+use compare::wrong_byte;
+use compare::wrong_word;
+use report::counted;
+use report::detail;
+use report::groups;
+use report::place;
+use report::say;
 
 // Runs a case and answers whether all is right.
 fn right(
@@ -185,15 +40,6 @@ fn right(
     }
     detail(at, reply, want, w, b);
     false
-}
-
-// The group of a case: 0 to 6 by its ending, 7 to 13 by its refusal.
-fn group(c: Case) -> usize {
-    if c.refused {
-        (c.a % 8) as usize + 6
-    } else {
-        (c.a % 7) as usize
-    }
 }
 
 fn count(counts: &mut [u32; 14], g: usize) {
@@ -305,37 +151,6 @@ fn each(
             return;
         }
         at += 1;
-    }
-}
-
-fn counted(seen: u32, wrong: u32) {
-    say(b": ");
-    number(seen);
-    say(b" cases, ");
-    number(wrong);
-    say(b" wrong\n");
-}
-
-// The line of a group that has cases.
-fn group_line(g: usize, seen: u32, wrong: u32) {
-    if seen == 0 {
-        return;
-    }
-    if g < 7 {
-        say(b"  ending ");
-        place(g);
-    } else {
-        say(b"  refusal ");
-        place(g - 6);
-    }
-    counted(seen, wrong);
-}
-
-fn groups(seen: [u32; 14], wrong: [u32; 14]) {
-    let mut g = 0;
-    while g < 14 {
-        group_line(g, seen[g], wrong[g]);
-        g += 1;
     }
 }
 

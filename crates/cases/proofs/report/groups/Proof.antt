@@ -1,7 +1,7 @@
 use Prim.Native.Nat.{_-_}
 use borrow.Author.Needs.{needs}
-use Rattle.cases.proofs.groups.Statement.{statement}
-use Rattle.cases.proofs.groups.Tie as tie
+use Rattle.cases.proofs.report.groups.Statement.{statement}
+use Rattle.cases.proofs.report.groups.Tie as tie
 
 abbrev Inv-loop : tie.InvT-loop
 Inv-loop seen wrong g₀ g = Unit {0}

@@ -1,8 +1,8 @@
 use Prim.Native.Nat.{_-_}
 use lib.ListN.{length}
 use borrow.Author.Needs.{needs}
-use Rattle.cases.proofs.wrong_word.Statement.{statement}
-use Rattle.cases.proofs.wrong_word.Tie as tie
+use Rattle.cases.proofs.compare.wrong_word.Statement.{statement}
+use Rattle.cases.proofs.compare.wrong_word.Tie as tie
 
 abbrev Inv-loop : tie.InvT-loop
 Inv-loop workspace kept i₀ i = Unit {0}

@@ -1,7 +1,7 @@
 use Prim.Native.Nat.{_-_}
 use borrow.Author.Needs.{needs}
-use Rattle.cases.proofs.six.Statement.{statement}
-use Rattle.cases.proofs.six.Tie as tie
+use Rattle.cases.proofs.report.six.Statement.{statement}
+use Rattle.cases.proofs.report.six.Tie as tie
 
 abbrev Inv-loop : tie.InvT-loop
 Inv-loop r i₀ t4 i = Unit {0}

@@ -1,0 +1,2 @@
+-- What the exported function's contract cites.
+pub mod Six

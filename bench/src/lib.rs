@@ -2,6 +2,7 @@
 //! random books to compare them on; and the books of the benchmarks.
 
 pub mod calls;
+pub mod clock;
 pub mod layout;
 pub mod made;
 pub mod plain;

@@ -4,13 +4,16 @@ type Records = [[u16; 8]];
 
 /// "Tests run in this order, each over the whole book before the next; the reply names the lowest failing record"
 pub fn refusal(records: &Records) -> Option<(u32, usize)> {
-    let tests: [(u32, fn(&Records, usize) -> bool); 4] = [(3, bad_kind), (4, bad_field), (5, bad_target), (6, no_tree)];
+    let tests: [(u32, fn(&Records, usize) -> bool); 3] = [(3, bad_kind), (4, bad_field), (5, bad_target)];
     for (number, fails) in tests {
         for i in 0..records.len() {
             if fails(records, i) {
                 return Some((number, i));
             }
         }
+    }
+    if let Some(i) = no_tree(records) {
+        return Some((6, i));
     }
     let mut faults = Vec::new();
     let last = records[records.len() - 1];
@@ -125,9 +128,11 @@ fn pointed(r: &[u16; 8]) -> Vec<u16> {
 }
 
 /// "a record other than the last is not pointed at exactly once, runs included"
-fn no_tree(records: &Records, i: usize) -> bool {
-    // Only records above can point here.
-    i != records.len() - 1 && records[i..].iter().flat_map(pointed).filter(|&p| p as usize == i).count() != 1
+fn no_tree(records: &Records) -> Option<usize> {
+    let mut all: Vec<u16> = records.iter().flat_map(pointed).collect();
+    all.sort();
+    let once = |i: usize| all.partition_point(|&p| p as usize <= i) - all.partition_point(|&p| (p as usize) < i) == 1;
+    (0..records.len() - 1).find(|&i| !once(i))
 }
 
 fn argument_scope(records: &Records, first: u16, count: u16, n: u16, faults: &mut Vec<u16>) {

@@ -4,43 +4,77 @@ use super::Record;
 
 /// The number of the first test that fails, and the lowest record at fault.
 pub fn first(records: &[Record], marks: &mut Vec<u16>) -> Option<(u32, usize)> {
+    marks.clear();
+    marks.resize(records.len(), 0);
+    by_record(records, marks)
+        .or_else(|| marks[..records.len() - 1].iter().position(|&times| times != 1).map(|i| (6, i)))
+        .or_else(|| out_of_scope(records, marks).map(|i| (7, i)))
+}
+
+/// Tests 3 to 5 in one pass, upward: a fault of test 4 or 5 waits for the end, since a later record may fail an earlier test. Where all
+/// hold, every record's mark is the number of times that it is pointed at.
+fn by_record(records: &[Record], times: &mut [u16]) -> Option<(u32, usize)> {
     let last = records.len() - 1;
-    let found = |number, record: Option<usize>| record.map(|r| (number, r));
-    found(3, (0..=last).find(|&i| if i == last { records[i][0] != 10 } else { !(1..=9).contains(&records[i][0]) }))
-        .or_else(|| found(4, (0..=last).find(|&i| !fields_hold(&records[i], i))))
-        .or_else(|| found(5, (0..=last).find(|&i| !targets_hold(records, &records[i]))))
-        .or_else(|| found(6, not_once(records, marks)))
-        .or_else(|| found(7, out_of_scope(records, marks.as_mut_slice())))
-}
-
-/// Whether a run lies wholly below its owner; an empty one has first 0.
-fn run_below(first: u16, count: u16, owner: usize) -> bool {
-    if count == 0 {
-        first == 0
-    } else {
-        first as usize + count as usize <= owner
-    }
-}
-
-fn fields_hold(r: &Record, i: usize) -> bool {
-    let below = |p: u16| (p as usize) < i;
-    let rest_zero = |from: usize| r[from..].iter().all(|&p| p == 0);
-    match r[0] {
-        1 => rest_zero(2),
-        2 | 4 => r[2] <= 8 && run_below(r[3], r[2], i) && rest_zero(4),
-        3 => below(r[1]) && rest_zero(2),
-        5 | 6 => below(r[1]) && below(r[2]) && rest_zero(3),
-        7 => (1..=64).contains(&r[2]) && run_below(r[1], r[2], i) && below(r[3]) && rest_zero(4),
-        8 => {
-            let body = match r[5] {
-                0 => r[6] == 0,
-                1 => below(r[6]),
-                _ => false,
-            };
-            r[1] <= 64 && r[3] <= 64 && run_below(r[2], r[3], i) && below(r[4]) && body && r[7] == 0
+    let mut fault = None;
+    for (i, r) in records.iter().enumerate() {
+        if (r[0] == 10) != (i == last) || r[0].wrapping_sub(1) >= 10 {
+            return Some((3, i));
         }
-        9 => rest_zero(3),
-        _ => r[2] <= 1024 && run_below(r[1], r[2], i) && below(r[3]) && r[4] <= 64 && rest_zero(5),
+        let fails = match fault {
+            Some((4, _)) => 0,
+            _ => fault_of(&records[..i], r, times),
+        };
+        if fails == 4 || fails == 5 && fault.is_none() {
+            fault = Some((fails, i));
+        }
+    }
+    fault
+}
+
+/// The first of the tests 4 and 5 that a record fails, or 0; counts what it points at.
+fn fault_of(below: &[Record], r: &Record, times: &mut [u16]) -> u32 {
+    let zero = |from: usize| r[from..].iter().fold(0, |all, p| all | p) == 0;
+    let upper_zero = || zero(4);
+    let lower = |p: u16| (p as usize) < below.len();
+    let run_lower = |first: u16, count: u16| first as usize + count as usize <= below.len() && (count > 0 || first == 0);
+    let (fields, targets) = match r[0] {
+        1 => (r[2] | r[3] == 0 && upper_zero(), true),
+        2 | 4 => {
+            let fields = r[2] <= 8 && run_lower(r[3], r[2]) && upper_zero();
+            (fields, fields && links_hold(below, r[3], r[2], times, |kind| kind <= 2))
+        }
+        3 => {
+            let fields = lower(r[1]) && r[2] | r[3] == 0 && upper_zero();
+            if fields {
+                times[r[1] as usize] += 1;
+            }
+            (fields, true)
+        }
+        5 | 6 => {
+            let fields = lower(r[1]) && lower(r[2]) && r[3] == 0 && upper_zero();
+            (fields, fields && goal_holds(below, r[1], times) && goal_holds(below, r[2], times))
+        }
+        7 => {
+            let fields = r[2] != 0 && r[2] <= 64 && run_lower(r[1], r[2]) && lower(r[3]) && upper_zero();
+            (fields, fields && links_hold(below, r[1], r[2], times, |kind| kind == 8) && goal_holds(below, r[3], times))
+        }
+        8 => {
+            let body = if r[5] == 0 { r[6] == 0 } else { r[5] == 1 && lower(r[6]) };
+            let fields = r[1] <= 64 && r[3] <= 64 && run_lower(r[2], r[3]) && lower(r[4]) && body && r[7] == 0;
+            (fields, fields && clause_holds(below, r, times))
+        }
+        9 => (r[3] == 0 && upper_zero(), true),
+        _ => {
+            let fields = r[2] <= 1024 && run_lower(r[1], r[2]) && lower(r[3]) && r[4] <= 64 && zero(5);
+            (fields, fields && links_hold(below, r[1], r[2], times, |kind| kind == 8) && goal_holds(below, r[3], times))
+        }
+    };
+    if !fields {
+        4
+    } else if !targets {
+        5
+    } else {
+        0
     }
 }
 
@@ -48,50 +82,27 @@ fn run(records: &[Record], first: u16, count: u16) -> &[Record] {
     &records[first as usize..first as usize + count as usize]
 }
 
-fn targets_hold(records: &[Record], r: &Record) -> bool {
-    let kind = |p: u16| records[p as usize][0];
-    let goal = |p: u16| (4..=7).contains(&kind(p));
-    let links = |first, count, wanted: fn(u16) -> bool| run(records, first, count).iter().all(|l| l[0] == 3 && wanted(kind(l[1])));
-    match r[0] {
-        2 | 4 => links(r[3], r[2], |k| k <= 2),
-        5 | 6 => goal(r[1]) && goal(r[2]),
-        7 => links(r[1], r[2], |k| k == 8) && goal(r[3]),
-        8 => run(records, r[2], r[3]).iter().all(|t| t[0] == 9) && kind(r[4]) == 4 && (r[5] == 0 || goal(r[6])),
-        10 => links(r[1], r[2], |k| k == 8) && goal(r[3]),
-        _ => true,
-    }
+#[inline(always)]
+fn links_hold(below: &[Record], first: u16, count: u16, times: &mut [u16], wanted: impl Fn(u16) -> bool) -> bool {
+    run(below, first, count).iter().zip(&mut times[first as usize..]).all(|(link, times)| {
+        *times += 1;
+        link[0] == 3 && wanted(below[link[1] as usize][0])
+    })
 }
 
-/// The lowest record but the last that is not pointed at exactly once.
-fn not_once(records: &[Record], times: &mut Vec<u16>) -> Option<usize> {
-    times.clear();
-    times.resize(records.len(), 0);
-    let add = |times: &mut Vec<u16>, first: u16, count: u16| {
-        for t in &mut times[first as usize..first as usize + count as usize] {
-            *t += 1;
-        }
-    };
-    for r in records {
-        match r[0] {
-            2 | 4 => add(times, r[3], r[2]),
-            3 => add(times, r[1], 1),
-            5 | 6 => {
-                add(times, r[1], 1);
-                add(times, r[2], 1);
-            }
-            7 | 10 => {
-                add(times, r[1], r[2]);
-                add(times, r[3], 1);
-            }
-            8 => {
-                add(times, r[2], r[3]);
-                add(times, r[4], 1);
-                add(times, r[6], r[5]);
-            }
-            _ => {}
-        }
-    }
-    times[..records.len() - 1].iter().position(|&t| t != 1)
+#[inline(always)]
+fn goal_holds(below: &[Record], goal: u16, times: &mut [u16]) -> bool {
+    times[goal as usize] += 1;
+    (4..=7).contains(&below[goal as usize][0])
+}
+
+fn clause_holds(below: &[Record], r: &Record, times: &mut [u16]) -> bool {
+    let ties = run(below, r[2], r[3]).iter().zip(&mut times[r[2] as usize..]).all(|(tie, times)| {
+        *times += 1;
+        tie[0] == 9
+    });
+    times[r[4] as usize] += 1;
+    ties && below[r[4] as usize][0] == 4 && (r[5] == 0 || goal_holds(below, r[6], times))
 }
 
 /// Marks a clause of the question's own run, beside the number of its outer holder.
@@ -102,34 +113,33 @@ fn out_of_scope(records: &[Record], holder: &mut [u16]) -> Option<usize> {
     let last = records.len() - 1;
     let mut lowest = usize::MAX;
     holder[last] = last as u16;
-    for i in (0..=last).rev() {
-        let r = &records[i];
+    for (i, r) in records.iter().enumerate().rev() {
         let h = holder[i];
-        match r[0] {
-            1 if r[1] >= variables(&records[h as usize]) => lowest = lowest.min(i),
-            2 | 4 => pass(records, holder, r[3], r[2], h),
-            5 | 6 => {
-                holder[r[1] as usize] = h;
-                holder[r[2] as usize] = h;
+        match *r {
+            [1, offset, ..] if offset >= variables(&records[h as usize]) => lowest = lowest.min(i),
+            [2 | 4, _, count, first, ..] => pass(records, holder, first, count, h),
+            [5 | 6, left, right, ..] => {
+                holder[left as usize] = h;
+                holder[right as usize] = h;
             }
-            7 => {
-                pass(records, holder, r[1], r[2], h);
-                holder[r[3] as usize] = h;
+            [7, first, count, goal, ..] => {
+                pass(records, holder, first, count, h);
+                holder[goal as usize] = h;
             }
-            8 => {
-                holder[r[4] as usize] = i as u16;
-                if r[5] == 1 {
-                    holder[r[6] as usize] = i as u16;
+            [8, _, _, ties, head, flag, body, _] => {
+                holder[head as usize] = i as u16;
+                if flag == 1 {
+                    holder[body as usize] = i as u16;
                 }
-                if r[3] > 0 {
+                if ties > 0 {
                     let outer = if h & OWN == 0 { Some(variables(&records[h as usize])) } else { None };
                     let at = tie_fault(records, r, outer).unwrap_or(if outer.is_none() { i } else { usize::MAX });
                     lowest = lowest.min(at);
                 }
             }
-            10 => {
-                pass(records, holder, r[1], r[2], h | OWN);
-                holder[r[3] as usize] = h;
+            [10, first, count, goal, ..] => {
+                pass(records, holder, first, count, h | OWN);
+                holder[goal as usize] = h;
             }
             _ => {}
         }

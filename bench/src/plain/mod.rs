@@ -17,6 +17,10 @@ use std::cell::RefCell;
 /// A record as an array of its eight numbers.
 type Record = [u16; 8];
 
+fn record(bytes: &[u8; 16]) -> Record {
+    std::array::from_fn(|i| u16::from_le_bytes([bytes[2 * i], bytes[2 * i + 1]]))
+}
+
 /// "No record", "no link", "no cell".
 const NONE: u16 = u16::MAX;
 
@@ -51,7 +55,7 @@ impl Plain {
             return [2, 0, 0, 0, 0, 0];
         }
         self.records.clear();
-        self.records.extend(book.chunks_exact(16).map(|b| -> Record { std::array::from_fn(|i| u16::from_le_bytes([b[2 * i], b[2 * i + 1]])) }));
+        self.records.extend(book.as_chunks::<16>().0.iter().map(record));
         if let Some((number, record)) = fault::first(&self.records, &mut self.marks) {
             return [number, record as u32, 0, 0, 0, 0];
         }

@@ -1,7 +1,7 @@
 //! Programs and their candidates: predicates get numbers, every clause run an index by them, and a memo keeps which
 //! supposition of a program is the nearest with clauses of a predicate.
 
-use super::text::Text;
+use super::text::{zero, Text, PLACES};
 use super::{Record, NONE};
 
 /// A supposition in force: its run, the base of the suppose goal's holder, and the program before it. Node 0 is the question's own run.
@@ -10,7 +10,7 @@ pub struct Node {
     pub run: u16,
     pub base: u16,
     pub below: u16,
-    /// Given once a run of the machine, so that a memo of a node gone back from is never taken for the new one's.
+    /// Given once in a call, so that a memo of a node gone back from is never taken for the new one's.
     stamp: u32,
     /// A bit for every predicate supposed here or below, the number taken modulo 64.
     predicates: u64,
@@ -23,28 +23,26 @@ struct Memo {
     node: u16,
 }
 
-const PLACES: usize = 8192;
+const HASHED: usize = 8192;
 const MEMOS: usize = 2048;
 
 pub struct Index {
-    /// Predicate numbers by symbol and argument count: open addressing, the numbers one up.
-    symbols: [u32; PLACES],
-    numbers: [u16; PLACES],
+    /// Predicate numbers by symbol and argument count: open addressing, the symbols one up.
+    symbols: Box<[u32; HASHED]>,
+    numbers: Box<[u16; HASHED]>,
     symbol_places: Vec<u16>,
     /// By predicate: the first link of the question's run; whether a suppose goal has a clause of it.
-    first: [u16; 4096],
-    supposed: [bool; 4096],
+    first: Box<[u16; PLACES]>,
+    supposed: Box<[bool; PLACES]>,
     count: usize,
-    /// By link of a clause run: the next one of the same run and predicate.
-    next: [u16; 4096],
-    /// First links by supposed run and predicate: open addressing, keys one up.
-    keys: [u32; PLACES],
-    firsts: [u16; PLACES],
+    /// First links by supposed run and predicate: open addressing.
+    keys: Box<[u32; HASHED]>,
+    firsts: Box<[u16; HASHED]>,
     key_places: Vec<u16>,
     runs: usize,
-    run_predicates: [u64; 2048],
-    memos: [Memo; MEMOS],
-    pub nodes: [Node; 1024],
+    run_predicates: Box<[u64; 2048]>,
+    memos: Box<[Memo; MEMOS]>,
+    pub nodes: Box<[Node; 1024]>,
     pub node_count: usize,
     stamps: u32,
 }
@@ -52,20 +50,19 @@ pub struct Index {
 impl Default for Index {
     fn default() -> Index {
         Index {
-            symbols: [0; PLACES],
-            numbers: [0; PLACES],
+            symbols: zero(0),
+            numbers: zero(0),
             symbol_places: Vec::with_capacity(4096),
-            first: [NONE; 4096],
-            supposed: [false; 4096],
+            first: zero(NONE),
+            supposed: zero(false),
             count: 0,
-            next: [NONE; 4096],
-            keys: [0; PLACES],
-            firsts: [0; PLACES],
+            keys: zero(0),
+            firsts: zero(0),
             key_places: Vec::with_capacity(4096),
             runs: 0,
-            run_predicates: [0; 2048],
-            memos: [Memo::default(); MEMOS],
-            nodes: [Node::default(); 1024],
+            run_predicates: zero(0),
+            memos: zero(Memo::default()),
+            nodes: zero(Node::default()),
             node_count: 1,
             stamps: 0,
         }
@@ -76,42 +73,41 @@ fn run_key(run: u16, predicate: u16) -> u32 {
     1 << 31 | (run as u32) << 12 | predicate as u32
 }
 
-fn place(key: u32) -> usize {
+fn hashed(key: u32) -> usize {
     (key.wrapping_mul(0x9E37_79B1) >> 19) as usize
+}
+
+fn memo_place(stamp: u32, predicate: u16) -> usize {
+    stamp.wrapping_add((predicate as u32).wrapping_mul(0x9E37)) as usize % MEMOS
 }
 
 impl Index {
     pub fn build(&mut self, records: &[Record], text: &mut Text) {
         self.clear();
         for (i, r) in records.iter().enumerate() {
-            if r[0] == 4 {
-                text.goals[i].b = self.predicate((r[1] as u32) << 4 | r[2] as u32);
+            if let [4, symbol, count, ..] = *r {
+                text.goals[i].b = self.predicate((symbol as u32) << 4 | count as u32);
             }
         }
         for (i, r) in records.iter().enumerate() {
-            let head = |link: usize| text.goals[records[text.links[link] as usize][4] as usize].b;
-            if r[0] == 7 {
-                let run = self.runs as u16;
-                self.runs += 1;
-                for link in (r[1]..r[1] + r[2]).rev() {
-                    let p = head(link as usize);
-                    self.supposed[p as usize] = true;
-                    self.run_predicates[run as usize] |= 1 << (p % 64);
-                    let at = self.run_place(run, p);
-                    if self.keys[at] == 0 {
-                        self.keys[at] = run_key(run, p);
-                        self.firsts[at] = NONE;
-                        self.key_places.push(at as u16);
+            let head = |text: &Text, link: usize| text.goals[records[records[link][1] as usize][4] as usize].b;
+            match *r {
+                [7, first, count, ..] => {
+                    let run = self.runs as u16;
+                    self.runs += 1;
+                    text.goals[i].b = run;
+                    for link in (first..first + count).rev() {
+                        let first = self.run_first(run, head(text, link as usize));
+                        text.clauses[link as usize].next = std::mem::replace(first, link);
                     }
-                    self.next[link as usize] = std::mem::replace(&mut self.firsts[at], link);
                 }
-                text.goals[i].b = run;
-            } else if r[0] == 10 {
-                for link in (r[1]..r[1] + r[2]).rev() {
-                    let p = head(link as usize) as usize;
-                    self.next[link as usize] = self.first[p];
-                    self.first[p] = link;
+                [10, first, count, ..] => {
+                    for link in (first..first + count).rev() {
+                        let p = head(text, link as usize) as usize;
+                        text.clauses[link as usize].next = std::mem::replace(&mut self.first[p], link);
+                    }
                 }
+                _ => {}
             }
         }
     }
@@ -137,12 +133,12 @@ impl Index {
     }
 
     fn predicate(&mut self, symbol: u32) -> u16 {
-        let mut at = place(symbol);
+        let mut at = hashed(symbol);
         while self.symbols[at] != 0 {
             if self.symbols[at] == symbol + 1 {
                 return self.numbers[at];
             }
-            at = (at + 1) % PLACES;
+            at = (at + 1) % HASHED;
         }
         self.symbols[at] = symbol + 1;
         self.symbol_places.push(at as u16);
@@ -154,39 +150,51 @@ impl Index {
     /// Where the first link of a run and predicate stands, or would stand.
     fn run_place(&self, run: u16, predicate: u16) -> usize {
         let key = run_key(run, predicate);
-        let mut at = place(key);
+        let mut at = hashed(key);
         while self.keys[at] != 0 && self.keys[at] != key {
-            at = (at + 1) % PLACES;
+            at = (at + 1) % HASHED;
         }
         at
     }
 
+    /// The first link of a run and predicate, to be set while the index is built.
+    fn run_first(&mut self, run: u16, predicate: u16) -> &mut u16 {
+        self.supposed[predicate as usize] = true;
+        self.run_predicates[run as usize] |= 1 << (predicate % 64);
+        let at = self.run_place(run, predicate);
+        if self.keys[at] == 0 {
+            self.keys[at] = run_key(run, predicate);
+            self.firsts[at] = NONE;
+            self.key_places.push(at as u16);
+        }
+        &mut self.firsts[at]
+    }
+
     /// Puts a run before a program.
-    #[inline]
+    #[inline(always)]
     pub fn suppose(&mut self, run: u16, base: u16, below: u16) -> u16 {
         self.stamps += 1;
-        let predicates = self.nodes[below as usize].predicates | self.run_predicates[run as usize];
+        let predicates = self.nodes[below as usize & 1023].predicates | self.run_predicates[run as usize & 2047];
         let new = self.node_count;
-        self.nodes[new] = Node { run, base, below, stamp: self.stamps, predicates };
+        self.nodes[new & 1023] = Node { run, base, below, stamp: self.stamps, predicates };
         self.node_count += 1;
         new as u16
     }
 
     /// The first candidate of a program: its node and link, or the link `NONE`.
-    #[inline]
+    #[inline(always)]
     pub fn candidate(&mut self, program: u16, predicate: u16) -> (u16, u16) {
-        if program != 0 && self.supposed[predicate as usize & 4095] {
+        if program != 0 && self.supposed[predicate as usize] {
             return self.supposed_candidate(program, predicate);
         }
-        (0, self.first[predicate as usize & 4095])
+        (0, self.first[predicate as usize])
     }
 
-    /// The candidate after one.
-    #[inline]
-    pub fn after(&mut self, node: u16, link: u16, predicate: u16) -> (u16, u16) {
-        let next = self.next[link as usize & 4095];
-        if next != NONE || node == 0 {
-            return (node, next);
+    /// The candidate after the last one of a node's run.
+    #[inline(always)]
+    pub fn beyond(&mut self, node: u16, predicate: u16) -> (u16, u16) {
+        if node == 0 {
+            return (0, NONE);
         }
         self.candidate(self.nodes[node as usize & 1023].below, predicate)
     }
@@ -212,6 +220,12 @@ impl Index {
             let memo = self.memos[memo_place(n.stamp, predicate)];
             node = if memo.stamp == n.stamp && memo.predicate == predicate { memo.node } else { n.below };
         };
+        self.remember(program, node, predicate);
+        (node, link)
+    }
+
+    /// Keeps which node was found for those passed on the way to it.
+    fn remember(&mut self, program: u16, node: u16, predicate: u16) {
         let mut from = program;
         while from != node && from != 0 {
             let n = self.nodes[from as usize];
@@ -222,10 +236,5 @@ impl Index {
             *memo = Memo { stamp: n.stamp, predicate, node };
             from = n.below;
         }
-        (node, link)
     }
-}
-
-fn memo_place(stamp: u32, predicate: u16) -> usize {
-    (stamp.wrapping_add((predicate as u32).wrapping_mul(0x9E37)) as usize) % MEMOS
 }

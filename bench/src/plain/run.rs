@@ -1,8 +1,8 @@
 //! The machine: goals taken, clauses entered, alternatives gone back to.
 
 use super::program::Index;
-use super::text::{Text, VARIABLE};
-use super::unify::{read, Runs};
+use super::text::{zero, Clause, Goal, Text, VARIABLE};
+use super::unify::{read, Pairs, Rest, Slots};
 use super::NONE;
 
 /// What ends a run before its search is complete.
@@ -28,12 +28,11 @@ struct Hand {
     next: u16,
 }
 
-/// A goal to go back to. With a candidate's link it is an atom and that candidate is entered; without, it is taken.
+const NO_HAND: Hand = Hand { goal: 0, base: 0, program: 0, next: NONE };
+
+/// Where a branch stands, to be gone back to.
 #[derive(Clone, Copy)]
-struct Alternative {
-    hand: Hand,
-    node: u16,
-    link: u16,
+struct Marks {
     trail: u16,
     live: u16,
     cells: u16,
@@ -41,27 +40,38 @@ struct Alternative {
     taken: u16,
 }
 
-const NO_HAND: Hand = Hand { goal: 0, base: 0, program: 0, next: NONE };
+/// A goal to go back to. With a candidate's link it is an atom and that candidate is entered; without, it is taken.
+#[derive(Clone, Copy)]
+struct Alternative {
+    hand: Hand,
+    node: u16,
+    link: u16,
+    marks: Marks,
+}
+
+const NO_ALTERNATIVE: Alternative = Alternative { hand: NO_HAND, node: 0, link: NONE, marks: Marks { trail: 0, live: 0, cells: 0, nodes: 1, taken: 0 } };
 
 pub struct Machine {
     /// By variable: 0 open, or the term in hand that it is bound or tied to.
-    pub slots: [u32; 2048],
+    pub slots: Box<Slots>,
     /// Variables bound that are older than an alternative.
-    pub trail: [u16; 2048],
+    pub trail: Box<[u16; 2048]>,
     pub trail_count: usize,
     /// Variables below this number are older than the newest alternative.
-    pub older: u32,
+    pub older: u16,
     /// Budget left.
     pub left: u32,
-    pub pairs: [Runs; 256],
-    pub looks: [(u16, u16, u32); 256],
-    pub renumbered: [u16; 2048],
+    pub pairs: Box<[Pairs; 256]>,
+    pub looks: Box<[Rest; 256]>,
+    pub renumbered: Box<[u16; 2048]>,
     pub open: Vec<u16>,
     live: u32,
     taken: u16,
-    cells: [Hand; 512],
+    cells: Box<[Hand; 512]>,
     cell_count: usize,
-    alternatives: Vec<Alternative>,
+    /// From place 1 on; place 0 is never gone back to, and nothing is older.
+    alternatives: Box<[Alternative; 1024]>,
+    kept: usize,
     answers: u32,
     assumed: u32,
     written: usize,
@@ -70,20 +80,21 @@ pub struct Machine {
 impl Default for Machine {
     fn default() -> Machine {
         Machine {
-            slots: [0; 2048],
-            trail: [0; 2048],
+            slots: zero(0),
+            trail: zero(0),
             trail_count: 0,
             older: 0,
             left: 0,
-            pairs: [Runs::default(); 256],
-            looks: [(0, 0, 0); 256],
-            renumbered: [0; 2048],
+            pairs: zero(Pairs::default()),
+            looks: zero(Rest::default()),
+            renumbered: zero(0),
             open: Vec::with_capacity(2048),
             live: 0,
             taken: 0,
-            cells: [NO_HAND; 512],
+            cells: zero(NO_HAND),
             cell_count: 0,
-            alternatives: Vec::with_capacity(512),
+            alternatives: zero(NO_ALTERNATIVE),
+            kept: 0,
             answers: 0,
             assumed: 0,
             written: 0,
@@ -96,9 +107,8 @@ impl Machine {
     pub fn run(&mut self, text: &Text, index: &mut Index, budget: u32, wanted: u32, out: &mut [u8]) -> [u32; 4] {
         self.slots[..text.unknowns as usize].fill(0);
         self.live = text.unknowns as u32;
-        (self.trail_count, self.older, self.left, self.taken, self.cell_count) = (0, 0, budget, 0, 0);
+        (self.trail_count, self.older, self.left, self.taken, self.cell_count, self.kept) = (0, 0, budget, 0, 0, 0);
         (self.answers, self.assumed, self.written) = (0, 0, 0);
-        self.alternatives.clear();
         let ending = match self.search(text, index, wanted, out) {
             Ok(()) => 0,
             Err(stop) => stop as u32,
@@ -119,99 +129,143 @@ impl Machine {
         Ok(())
     }
 
+    #[inline(never)]
     fn search(&mut self, text: &Text, index: &mut Index, wanted: u32, out: &mut [u8]) -> Result<(), Stop> {
         let mut hand = Hand { goal: text.goal, ..NO_HAND };
-        'take: loop {
+        loop {
             self.unit(self.taken == GOALS, Stop::Goals)?;
             self.taken += 1;
-            let goal = text.goals[hand.goal as usize & 4095];
-            let (mut node, mut link) = match goal.kind {
+            let goal = text.goals[hand.goal as usize];
+            let done = match goal.kind {
                 5 => {
                     self.cells[self.cell_count & 511] = Hand { goal: goal.b, ..hand };
                     hand = Hand { goal: goal.a, next: self.cell_count as u16, ..hand };
                     self.cell_count += 1;
-                    continue 'take;
+                    continue;
                 }
                 6 => {
-                    self.keep(Hand { goal: goal.b, ..hand }, 0, NONE, index.node_count);
+                    let marks = self.marks(index);
+                    self.keep(Alternative { hand: Hand { goal: goal.b, ..hand }, node: 0, link: NONE, marks });
                     hand.goal = goal.a;
-                    continue 'take;
+                    continue;
                 }
                 7 => {
                     hand.program = index.suppose(goal.b, hand.base, hand.program);
                     hand.goal = goal.a;
-                    continue 'take;
+                    continue;
                 }
-                _ => index.candidate(hand.program, goal.b),
+                _ => {
+                    let (node, link) = index.candidate(hand.program, goal.b);
+                    self.enter_some(text, index, &mut hand, goal, node, link)?
+                }
             };
-            if link != NONE {
-                let (after_node, after) = index.after(node, link, goal.b);
-                if after != NONE {
-                    self.keep(hand, after_node, after, index.node_count);
-                }
+            if done && self.more(&mut hand) {
+                continue;
             }
+            if done {
+                self.answer(text, index.node_count > 1, wanted, out)?;
+            }
+            // Going back, until a candidate unifies with goals after it, or a goal is to be taken.
             loop {
-                if link != NONE && self.enter(text, index, &mut hand, node, link)? {
-                    if hand.goal != NONE {
-                        continue 'take;
-                    }
-                    if hand.next != NONE {
-                        hand = self.cells[hand.next as usize & 511];
-                        continue 'take;
+                if self.kept == 0 {
+                    return Ok(());
+                }
+                let Alternative { hand: kept, node, link, marks } = self.alternatives[self.kept & 1023];
+                hand = kept;
+                self.kept -= 1;
+                self.older = self.alternatives[self.kept & 1023].marks.live;
+                self.undo(marks.trail);
+                (self.live, self.cell_count, self.taken) = (marks.live as u32, marks.cells as usize, marks.taken);
+                index.node_count = marks.nodes as usize;
+                if link == NONE {
+                    break;
+                }
+                let goal = text.goals[hand.goal as usize];
+                if self.enter_some(text, index, &mut hand, goal, node, link)? {
+                    if self.more(&mut hand) {
+                        break;
                     }
                     self.answer(text, index.node_count > 1, wanted, out)?;
-                }
-                // Going back.
-                let Some(kept) = self.alternatives.last_mut() else {
-                    return Ok(());
-                };
-                hand = kept.hand;
-                (node, link) = (kept.node, kept.link);
-                (self.live, self.cell_count, self.taken) = (kept.live as u32, kept.cells as usize, kept.taken);
-                index.node_count = kept.nodes as usize;
-                let trail = kept.trail as usize;
-                let after = if link == NONE { (0, NONE) } else { index.after(node, link, text.goals[hand.goal as usize & 4095].b) };
-                if after.1 == NONE {
-                    self.alternatives.pop();
-                    self.older = self.alternatives.last().map_or(0, |a| a.live as u32);
-                } else {
-                    (kept.node, kept.link) = after;
-                }
-                while self.trail_count > trail {
-                    self.trail_count -= 1;
-                    self.slots[self.trail[self.trail_count & 2047] as usize & 2047] = 0;
-                }
-                if link == NONE {
-                    continue 'take;
                 }
             }
         }
     }
 
+    /// Puts the next goal in hand, if there is one.
     #[inline(always)]
-    fn keep(&mut self, hand: Hand, node: u16, link: u16, nodes: usize) {
-        self.older = self.live;
-        self.alternatives.push(Alternative {
-            hand,
-            node,
-            link,
+    fn more(&mut self, hand: &mut Hand) -> bool {
+        if hand.goal != NONE {
+            return true;
+        }
+        if hand.next == NONE {
+            return false;
+        }
+        *hand = self.cells[hand.next as usize & 511];
+        true
+    }
+
+    #[inline(always)]
+    fn marks(&self, index: &Index) -> Marks {
+        Marks {
             trail: self.trail_count as u16,
             live: self.live as u16,
             cells: self.cell_count as u16,
-            nodes: nodes as u16,
+            nodes: index.node_count as u16,
             taken: self.taken,
-        });
+        }
     }
 
-    /// Enters a clause for the atom in hand; where they unify, its body is in hand, or `NONE`.
     #[inline(always)]
-    fn enter(&mut self, text: &Text, index: &Index, hand: &mut Hand, node: u16, link: u16) -> Result<bool, Stop> {
-        let clause = text.clauses[text.links[link as usize & 4095] as usize & 4095];
+    fn keep(&mut self, alternative: Alternative) {
+        self.kept += 1;
+        self.alternatives[self.kept & 1023] = alternative;
+        self.older = alternative.marks.live;
+    }
+
+    #[inline(always)]
+    fn undo(&mut self, trail: u16) {
+        while self.trail_count > trail as usize {
+            self.trail_count -= 1;
+            self.slots[self.trail[self.trail_count & 2047] as usize] = 0;
+        }
+    }
+
+    /// Enters candidates for the atom in hand until one unifies, and keeps the rest; its body is then in hand, or `NONE`.
+    #[inline(always)]
+    fn enter_some(&mut self, text: &Text, index: &mut Index, hand: &mut Hand, atom: Goal, mut node: u16, mut link: u16) -> Result<bool, Stop> {
+        let marks = self.marks(index);
+        let older = self.older;
+        while link != NONE {
+            let clause = text.clauses[link as usize];
+            let (after_node, after) = if clause.next != NONE { (node, clause.next) } else { index.beyond(node, atom.b) };
+            // With a candidate after this one all that is live is older than an alternative.
+            self.older = if after == NONE { older } else { marks.live };
+            if self.enter(text, index, *hand, atom, node, clause)? {
+                if after != NONE {
+                    self.keep(Alternative { hand: *hand, node: after_node, link: after, marks });
+                }
+                hand.goal = clause.body;
+                hand.base = marks.live;
+                return Ok(true);
+            }
+            self.undo(marks.trail);
+            self.live = marks.live as u32;
+            (node, link) = (after_node, after);
+        }
+        Ok(false)
+    }
+
+    /// Enters one clause and unifies its head with the atom in hand.
+    #[inline(always)]
+    fn enter(&mut self, text: &Text, index: &Index, hand: Hand, atom: Goal, node: u16, clause: Clause) -> Result<bool, Stop> {
         let base = self.live;
         self.unit(base + clause.variables as u32 > VARIABLES, Stop::Variables)?;
         self.live += clause.variables as u32;
-        for slot in &mut self.slots[base as usize..self.live as usize] {
-            *slot = 0;
+        let mut opened = base;
+        while opened < self.live {
+            // Four at a time; what is past the live ones is opened before it is used.
+            self.slots[opened as u16 as usize..][..4].copy_from_slice(&[0; 4]);
+            opened += 4;
         }
         if clause.tie_count > 0 {
             let outer_base = index.nodes[node as usize & 1023].base as u32;
@@ -220,11 +274,10 @@ impl Machine {
                 self.slots[base as usize + own as usize] = read(&self.slots, VARIABLE | (outer_base + outer as u32));
             }
         }
-        let atom = text.goals[hand.goal as usize & 4095];
-        let runs = Runs { first: atom.a, first_base: hand.base, second: clause.arguments, second_base: base as u16, count: atom.count as u32 };
-        hand.goal = clause.body;
-        hand.base = base as u16;
-        self.unify(text, runs)
+        if atom.count == 0 {
+            return Ok(true);
+        }
+        self.unify(text, atom.a, hand.base as u32, clause.arguments, base, atom.count)
     }
 
     fn answer(&mut self, text: &Text, assumed: bool, wanted: u32, out: &mut [u8]) -> Result<(), Stop> {

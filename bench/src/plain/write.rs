@@ -1,8 +1,8 @@
 //! Writing an answer.
 
 use super::run::{Machine, Stop};
-use super::text::{Text, BASE, BASE_BITS, VARIABLE};
-use super::unify::{read, LIST};
+use super::text::{Text, RECORD, VARIABLE};
+use super::unify::{read, Rest, LIST};
 
 impl Machine {
     /// Writes an answer into the front of what is left of the buffer, and says how many bytes it took; of a stopped one nothing stays.
@@ -19,55 +19,56 @@ impl Machine {
     }
 
     fn write_unknowns(&mut self, text: &Text, number: u32, rest: &mut [u8], at: &mut usize) -> Result<(), Stop> {
-        let mut listed = text.unknowns as u32;
-        for unknown in 0..text.unknowns as u32 {
+        for unknown in 0..text.unknowns {
+            let waiting = (text.unknowns - unknown - 1) as u32;
             let mut depth = 0;
-            let (mut link, mut base, mut count) = (0u32, 0u32, 0u32);
-            let mut term = read(&self.slots, VARIABLE | unknown);
+            let mut now = Rest::default();
+            let mut term = read(&self.slots, VARIABLE | unknown as u32);
             loop {
-                listed -= 1;
                 let place = rest.get_mut(*at..*at + 8).ok_or(Stop::Buffer)?;
                 *at += 8;
-                place[0] = number as u8;
-                if term & VARIABLE != 0 {
-                    let v = term as usize & 2047;
-                    if self.renumbered[v] == 0 {
-                        self.open.push(v as u16);
-                        self.renumbered[v] = self.open.len() as u16;
+                let arguments = self.write_record(text, number, term, place);
+                if arguments.link != arguments.end {
+                    let others = self.looks[depth].waiting + now.end - now.link;
+                    if waiting + (others + arguments.end - arguments.link) as u32 > LIST {
+                        return Err(Stop::List);
                     }
-                    place[2] = 1;
-                    place[4..6].copy_from_slice(&(self.renumbered[v] - 1).to_le_bytes());
-                } else {
-                    let t = text.terms[(term >> BASE_BITS) as usize & 4095];
-                    let arguments = t.count();
-                    place[2] = 2;
-                    place[4..6].copy_from_slice(&((t.symbol >> 4) as u16).to_le_bytes());
-                    place[6] = arguments as u8;
-                    if arguments > 0 {
-                        if listed + arguments > LIST {
-                            return Err(Stop::List);
-                        }
-                        listed += arguments;
-                        if count > 0 {
-                            self.looks[depth] = (link as u16, base as u16, count);
-                            depth += 1;
-                        }
-                        (link, base, count) = (t.arguments, term & BASE, arguments);
+                    if now.link != now.end {
+                        depth += 1;
+                        self.looks[depth] = Rest { waiting: others, ..now };
                     }
+                    now = arguments;
                 }
-                if count == 0 {
+                if now.link == now.end {
                     if depth == 0 {
                         break;
                     }
+                    now = self.looks[depth];
                     depth -= 1;
-                    let (l, b, c) = self.looks[depth];
-                    (link, base, count) = (l as u32, b as u32, c);
                 }
-                term = read(&self.slots, text.links[link as usize & 4095] + base);
-                link += 1;
-                count -= 1;
+                term = read(&self.slots, text.links[now.link as usize] + now.base as u32);
+                now.link += 1;
             }
         }
         Ok(())
+    }
+
+    /// Writes one record and gives the arguments to go on.
+    fn write_record(&mut self, text: &Text, number: u32, term: u32, place: &mut [u8]) -> Rest {
+        let (kind, symbol, count, arguments) = if term & VARIABLE != 0 {
+            let v = term as u16;
+            if self.renumbered[v as usize] == 0 {
+                self.open.push(v);
+                self.renumbered[v as usize] = self.open.len() as u16;
+            }
+            (1, self.renumbered[v as usize] - 1, 0, 0)
+        } else {
+            let t = text.terms[(term / RECORD) as usize];
+            (2, (t.symbol >> 4) as u16, t.count() as u16, t.arguments as u16)
+        };
+        for (k, n) in [number as u16, kind, symbol, count].into_iter().enumerate() {
+            place[2 * k..2 * k + 2].copy_from_slice(&n.to_le_bytes());
+        }
+        Rest { link: arguments, end: arguments + count, base: term as u16, waiting: 0 }
     }
 }

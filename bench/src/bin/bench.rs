@@ -1,7 +1,7 @@
 //! Times the plain and the proved engine in one process on the same calls.
 //!
 //! `bench [PART OF A ROW'S NAME]` prints the table. For an instruction counter `bench calls N ENGINE ROW` only makes N calls of one engine on one row,
-//! and `bench names` prints the rows' names and units.
+//! `bench names` prints the rows' names and units, and `bench engines` the engines that are linked.
 
 use std::env;
 use std::hint::black_box;
@@ -99,6 +99,10 @@ fn main() {
         for row in rows() {
             println!("{}\t{}", row.name, once(plain::solve, &row, &mut buffers)[5]);
         }
+        return;
+    }
+    if words == ["engines"] {
+        engines().iter().for_each(|(name, _)| println!("{name}"));
         return;
     }
     table(words.first().map_or("", |w| w));

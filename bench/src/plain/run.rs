@@ -1,7 +1,7 @@
 //! The machine: goals taken, clauses entered, alternatives gone back to.
 
 use super::program::Index;
-use super::text::{zero, Clause, Goal, Text, VARIABLE};
+use super::text::{Clause, Goal, Text, PLACES, VARIABLE};
 use super::unify::{read, Pairs, Rest, Slots};
 use super::NONE;
 
@@ -53,24 +53,24 @@ const NO_ALTERNATIVE: Alternative = Alternative { hand: NO_HAND, node: 0, link: 
 
 pub struct Machine {
     /// By variable: 0 open, or the term in hand that it is bound or tied to.
-    pub slots: Box<Slots>,
+    pub slots: Slots,
     /// Variables bound that are older than an alternative.
-    pub trail: Box<[u16; 2048]>,
+    pub trail: [u16; 2048],
     pub trail_count: usize,
     /// Variables below this number are older than the newest alternative.
     pub older: u16,
     /// Budget left.
     pub left: u32,
-    pub pairs: Box<[Pairs; 256]>,
-    pub looks: Box<[Rest; 256]>,
-    pub renumbered: Box<[u16; 2048]>,
+    pub pairs: [Pairs; 256],
+    pub looks: [Rest; 256],
+    pub renumbered: [u16; 2048],
     pub open: Vec<u16>,
     live: u32,
     taken: u16,
-    cells: Box<[Hand; 512]>,
+    cells: [Hand; 512],
     cell_count: usize,
     /// From place 1 on; place 0 is never gone back to, and nothing is older.
-    alternatives: Box<[Alternative; 1024]>,
+    alternatives: [Alternative; 1024],
     kept: usize,
     answers: u32,
     assumed: u32,
@@ -80,20 +80,20 @@ pub struct Machine {
 impl Default for Machine {
     fn default() -> Machine {
         Machine {
-            slots: zero(0),
-            trail: zero(0),
+            slots: [0; PLACES],
+            trail: [0; 2048],
             trail_count: 0,
             older: 0,
             left: 0,
-            pairs: zero(Pairs::default()),
-            looks: zero(Rest::default()),
-            renumbered: zero(0),
+            pairs: [Pairs::default(); 256],
+            looks: [Rest::default(); 256],
+            renumbered: [0; 2048],
             open: Vec::with_capacity(2048),
             live: 0,
             taken: 0,
-            cells: zero(NO_HAND),
+            cells: [NO_HAND; 512],
             cell_count: 0,
-            alternatives: zero(NO_ALTERNATIVE),
+            alternatives: [NO_ALTERNATIVE; 1024],
             kept: 0,
             answers: 0,
             assumed: 0,
@@ -135,8 +135,8 @@ impl Machine {
         loop {
             self.unit(self.taken == GOALS, Stop::Goals)?;
             self.taken += 1;
-            let goal = text.goals[hand.goal as usize];
-            let done = match goal.kind {
+            let mut goal = text.goals[hand.goal as usize];
+            let (mut node, mut link) = match goal.kind {
                 5 => {
                     self.cells[self.cell_count & 511] = Hand { goal: goal.b, ..hand };
                     hand = Hand { goal: goal.a, next: self.cell_count as u16, ..hand };
@@ -154,39 +154,30 @@ impl Machine {
                     hand.goal = goal.a;
                     continue;
                 }
-                _ => {
-                    let (node, link) = index.candidate(hand.program, goal.b);
-                    self.enter_some(text, index, &mut hand, goal, node, link)?
-                }
+                _ => index.candidate(hand.program, goal.b),
             };
-            if done && self.more(&mut hand) {
-                continue;
-            }
-            if done {
-                self.answer(text, index.node_count > 1, wanted, out)?;
-            }
             // Going back, until a candidate unifies with goals after it, or a goal is to be taken.
             loop {
-                if self.kept == 0 {
-                    return Ok(());
-                }
-                let Alternative { hand: kept, node, link, marks } = self.alternatives[self.kept & 1023];
-                hand = kept;
-                self.kept -= 1;
-                self.older = self.alternatives[self.kept & 1023].marks.live;
-                self.undo(marks.trail);
-                (self.live, self.cell_count, self.taken) = (marks.live as u32, marks.cells as usize, marks.taken);
-                index.node_count = marks.nodes as usize;
-                if link == NONE {
-                    break;
-                }
-                let goal = text.goals[hand.goal as usize];
                 if self.enter_some(text, index, &mut hand, goal, node, link)? {
                     if self.more(&mut hand) {
                         break;
                     }
                     self.answer(text, index.node_count > 1, wanted, out)?;
                 }
+                if self.kept == 0 {
+                    return Ok(());
+                }
+                let kept = self.alternatives[self.kept & 1023];
+                self.kept -= 1;
+                self.older = self.alternatives[self.kept & 1023].marks.live;
+                self.undo(kept.marks.trail);
+                (self.live, self.cell_count, self.taken) = (kept.marks.live as u32, kept.marks.cells as usize, kept.marks.taken);
+                index.node_count = kept.marks.nodes as usize;
+                (hand, node, link) = (kept.hand, kept.node, kept.link);
+                if link == NONE {
+                    break;
+                }
+                goal = text.goals[hand.goal as usize];
             }
         }
     }

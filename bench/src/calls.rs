@@ -56,7 +56,11 @@ impl Ran {
 pub fn show(call: &Call) -> String {
     let mut text = format!(
         "budget {} wanted {} workspace {} words, answer buffer {} bytes, book {} bytes\n",
-        call.budget, call.wanted, call.words, call.out_len, call.book.len()
+        call.budget,
+        call.wanted,
+        call.words,
+        call.out_len,
+        call.book.len()
     );
     for (i, bytes) in call.book.chunks(16).enumerate() {
         text += &format!("{i}:");

@@ -66,7 +66,9 @@ fn measure(row: &Row, buffers: &mut Buffers) -> Vec<f64> {
 
 fn table(part: &str) {
     let mut buffers = Buffers { workspace: vec![0; WORDS], out: vec![0; 4096] };
-    println!("Both buffers are zero before every call, as the call before leaves them; the engines clear what they promise to clear, in their own time.");
+    println!(
+        "Both buffers are zero before every call, as the call before leaves them; the engines clear what they promise to clear, in their own time."
+    );
     println!("Nanoseconds a unit (of a refused book: a call), tests and clearing included.\n");
     println!("| row | units | plain | proved | plain / proved |\n|---|---|---|---|---|");
     for row in rows().iter().filter(|r| r.name.contains(part)) {

@@ -49,7 +49,8 @@ struct Alternative {
     marks: Marks,
 }
 
-const NO_ALTERNATIVE: Alternative = Alternative { hand: NO_HAND, node: 0, link: NONE, marks: Marks { trail: 0, live: 0, cells: 0, nodes: 1, taken: 0 } };
+const NO_ALTERNATIVE: Alternative =
+    Alternative { hand: NO_HAND, node: 0, link: NONE, marks: Marks { trail: 0, live: 0, cells: 0, nodes: 1, taken: 0 } };
 
 pub struct Machine {
     /// By variable: 0 open, or the term in hand that it is bound or tied to.

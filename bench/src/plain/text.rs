@@ -58,7 +58,15 @@ pub struct Text {
 
 impl Default for Text {
     fn default() -> Text {
-        Text { links: zero(0), terms: zero(Term::default()), goals: zero(Goal::default()), clauses: zero(Clause::default()), ties: zero((0, 0)), unknowns: 0, goal: 0 }
+        Text {
+            links: zero(0),
+            terms: zero(Term::default()),
+            goals: zero(Goal::default()),
+            clauses: zero(Clause::default()),
+            ties: zero((0, 0)),
+            unknowns: 0,
+            goal: 0,
+        }
     }
 }
 

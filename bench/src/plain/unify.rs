@@ -147,7 +147,16 @@ fn look(slots: &Slots, text: &Text, rests: &mut [Rest; 256], left: &mut u32, var
 /// Looks for a variable in the arguments of a term.
 #[inline(never)]
 #[allow(clippy::too_many_arguments)]
-fn look_below(slots: &Slots, text: &Text, rests: &mut [Rest; 256], budget: &mut u32, variable: u32, mut link: usize, count: usize, mut base: u32) -> Seen {
+fn look_below(
+    slots: &Slots,
+    text: &Text,
+    rests: &mut [Rest; 256],
+    budget: &mut u32,
+    variable: u32,
+    mut link: usize,
+    count: usize,
+    mut base: u32,
+) -> Seen {
     let mut left = *budget;
     let mut end = link + count;
     let mut depth = 0;

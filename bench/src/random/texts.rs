@@ -88,7 +88,7 @@ impl Shape {
     fn ties(&mut self, dice: &Dice, variables: usize, outer: Option<usize>) -> Vec<(u16, u16)> {
         let outer = match outer {
             Some(n) => n,
-            None if dice.one_in(4 * self.tie_fault) => 64,
+            None if dice.one_in(self.tie_fault) => 64,
             None => return vec![],
         };
         let most = variables.min(outer).min(self.most_ties);

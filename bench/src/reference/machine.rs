@@ -138,7 +138,14 @@ impl Run<'_> {
 
     /// "The first is entered, the rest kept; with none, or on any failure, go back. After unifying, the body joins the front of the list with the
     /// program of the *call*."
-    fn enter(&mut self, branch: &mut Branch, goal: Rc<Goal>, base: usize, program: Program, mut candidates: VecDeque<(Rc<Clause>, usize)>) -> Result<(), Stop> {
+    fn enter(
+        &mut self,
+        branch: &mut Branch,
+        goal: Rc<Goal>,
+        base: usize,
+        program: Program,
+        mut candidates: VecDeque<(Rc<Clause>, usize)>,
+    ) -> Result<(), Stop> {
         let (clause, outer_base) = candidates.pop_front().ok_or(Stop::Failure)?;
         if !candidates.is_empty() {
             self.alternatives.push(Alternative::Candidates(branch.clone(), goal.clone(), base, program.clone(), candidates));

@@ -45,7 +45,7 @@ and-steps book F ws ws′ r left x threads h S B W X k l e =
     rw e
     (steps-on {used = 1} h
     (in-hand refl (and-sound book F (topsOf r) ws (r .cell) (r .taken) (r .supposed) x S B X k l) (and-branch book F (topsOf r) ws (r .cell) (r .taken) (r .supposed) x S B X k l)
-    (and-waiting book F (topsOf r) ws (r .cell) (r .taken) (r .supposed) x S B X k l W))
+      (and-waiting book F (topsOf r) ws (r .cell) (r .taken) (r .supposed) x S B X k l W))
     (one-unit left (solving x) _ threads h (and-unit book F (r .made) (r .cells) (r .programs) (r .cell) ws x X k (rw (B .taken-same) l))))
 
 -- what the code of take_and writes
@@ -76,11 +76,11 @@ module _ (book : List ℕ) (F : Formed book) (ws : List ℕ) (r : Regs) (left : 
   atom-enters q i f after ws′ a b c e =
       let n : r .alternatives < 512 = omega (arith, B .alternatives-few) in
       let A = keep-agree ws (r .alternatives) (atomKept book F (topsOf r) ws (r .cell) (r .taken) (r .supposed) x S B X k l q i) n (S .slots .size) (topsOf r) refl (S .slots .room)
-      (fits-most (r .made) (r .trail) ws (S .slots .room) (S .fits)) (S .cells-most) (S .programs-most) in
+          (fits-most (r .made) (r .trail) ws (S .slots .room) (S .fits)) (S .cells-most) (S .programs-most) in
       let T = sound-agree A S in
       rw e
       (steps-on {r = backRegs r (suc (r .alternatives))} {used = 1} h
       (going-back refl
-      (record { slots = T .slots; fits = T .fits; cells-some = T .cells-some; programs-some = T .programs-some; cells-most = T .cells-most; programs-most = T .programs-most; alternatives-most = omega arith; small = T .small })
-      (atom-waiting book F (topsOf r) ws (r .cell) (r .taken) (r .supposed) x S B X k l q i f after a b W))
+        (record { slots = T .slots; fits = T .fits; cells-some = T .cells-some; programs-some = T .programs-some; cells-most = T .cells-most; programs-most = T .programs-most; alternatives-most = omega arith; small = T .small })
+        (atom-waiting book F (topsOf r) ws (r .cell) (r .taken) (r .supposed) x S B X k l q i f after a b W))
       (gives _ (atom-unit book F (topsOf r) ws (r .cell) (r .taken) (r .supposed) x S B X k l _ c)))

@@ -41,7 +41,6 @@ startThreads book = start (questionOf book) .thread ∷ []
 -- the numbers region while an answer is written: the place of each open variable seen, plus 1, and 0 for the others
 abbrev pub seenWord : ℕ → List ℕ → ℕ
 seenWord v seen = elim (leb (suc (placeOf v seen)) (length seen)) [ true ↦ suc (placeOf v seen) | false ↦ 0 ]
-
 abbrev pub IsSeen : ℕ → List ℕ → List ℕ → Type 0
 IsSeen made ws seen = (v : ℕ) → v < made → getD ws (4096 + v) 0 ≡ seenWord v seen
 

@@ -6,6 +6,7 @@ ghost use Rattle.words.specs.Readable.{Readable};
 ghost use Rattle.book.specs.Records.{field as bookField, records};
 ghost use Rattle.steps.specs.Enters.{EnterReady, Enters};
 ghost use Rattle.steps.specs.Takes.{andWords, andRegs};
+
 use machine::Ending;
 use machine::Limit;
 use unifier::Unified;
@@ -37,17 +38,7 @@ pub enum Wrote {
 }
 
 // Enters clause c, whose outer variables are from o on, for atom a at base e, and unifies.
-pub fn enter(
-    book: &[u8],
-    made: u32,
-    ws: &mut [u32],
-    a: u32,
-    e: u32,
-    c: u32,
-    o: u32,
-    trail: u32,
-    left: u32,
-) -> Unified
+pub fn enter(book: &[u8], made: u32, ws: &mut [u32], a: u32, e: u32, c: u32, o: u32, trail: u32, left: u32) -> Unified
     requires { ⌜ Readable (now book) ⌝ }
     requires { ⌜ EnterReady (now book) made trail (now ws) a e c o ⌝ }
     ensures { λ r. ⌜ Enters (now (book .entry)) made trail (now (ws .entry)) (now (ws .exit)) a e c o left r ⌝ }

@@ -65,12 +65,13 @@ module _ (book : List ℕ) (R : Readable book) (made trail : ℕ) (ws : List ℕ
       let S = entered-slots book made (field book c 1) o (field book c 2) (field book c 3) ws (X .slots) (X .room) (X .ties) in
       let F = entered-fits book made (field book c 1) o (field book c 2) (field book c 3) ws (X .slots) (X .room) (X .ties) trail (X .fits) in
       let g = paired-good book (made + field book c 1) (X .room) e made (X .base) (omega (arith, X .slots .room)) (field book a 3) (field book (headOf book c) 3) (field book a 2) 0 made-here size-here (omega (arith, few)) (X .below) head-run
-          (λ k l. absurd (omega arith)) in
-      record
-        { slots = slots-same book (made + field book c 1) 15616 (omega (arith, X .room)) keeps-here S
-        ; most = omega (arith, few)
-        ; words = rw (zero-add (field book a 2)) at g
-        ; fits = rw (take-same (made + field book c 1) made-here paired-here (keeps-here .size) (λ i l. keeps-here .same i (omega arith) (omega (arith, X .room)))) F }
+      (λ k l. absurd (omega arith)) in
+      record {
+        slots = slots-same book (made + field book c 1) 15616 (omega (arith, X .room)) keeps-here S;
+        most = omega (arith, few);
+        words = rw (zero-add (field book a 2)) at g;
+        fits = rw (take-same (made + field book c 1) made-here paired-here (keeps-here .size) (λ i l. keeps-here .same i (omega arith) (omega (arith, X .room)))) F;
+      }
 
   pub unify-ready : (n first t h m : ℕ) (ws₁ ws₂ ws₃ : List ℕ) → n ≡ field book c 1 → first ≡ field book c 2 → t ≡ field book c 3 → h ≡ field book c 4 → m ≡ field book a 2
       → ws₁ ≡ openSlots made n ws → ws₂ ≡ putTies book made o first t ws₁ → ws₃ ≡ pushPairs book e (field book a 3) made (field book h 3) m 0 ws₂ → Pairs book (made + n) m trail ws₃
@@ -83,11 +84,13 @@ module _ (book : List ℕ) (R : Readable book) (made trail : ℕ) (ws : List ℕ
   entering-ends n first t h m ws₁ ws₂ ws₃ ws₄ left y p q r s u v w x E d =
       let z = mid-is n first t h m ws₁ ws₂ ws₃ p q r s u v w x in
       let b = paired book (made + field book c 1) (X .room) e made (X .base) (omega (arith, X .slots .room)) (field book a 3) (field book (headOf book c) 3) (field book a 2) 0 made-here size-here (omega (arith, few)) (X .below) head-run in
-      record
-        { mid = paired-here
-        ; below = keeps-trans (entered-below book made (field book c 1) o (field book c 2) (field book c 3) ws (X .slots) (X .room) (X .ties)) (keeps-narrow (omega arith) (omega (arith, X .slots .room)) keeps-here)
-        ; above = keeps-trans (keeps-narrow (X .room) (omega arith) (entered-above book made (field book c 1) o (field book c 2) (field book c 3) ws (X .slots) (X .room) (X .ties) 15616)) (keeps-narrow (omega arith) (omega arith) keeps-here)
-        ; store = store-same book (made + field book c 1) 15616 (omega (arith, X .room)) keeps-here ∙ entered-store book made (field book c 1) o (field book c 2) (field book c 3) ws (X .slots) (X .room) (X .ties)
-        ; pairs = (rw (zero-add (field book a 2)) at b) ∙ rw (← (X .counts)) refl
-        ; solved = d; ready = pairs-here
-        ; ends = rw (z, p, u) at E }
+      record {
+        mid = paired-here;
+        below = keeps-trans (entered-below book made (field book c 1) o (field book c 2) (field book c 3) ws (X .slots) (X .room) (X .ties)) (keeps-narrow (omega arith) (omega (arith, X .slots .room)) keeps-here);
+        above = keeps-trans (keeps-narrow (X .room) (omega arith) (entered-above book made (field book c 1) o (field book c 2) (field book c 3) ws (X .slots) (X .room) (X .ties) 15616)) (keeps-narrow (omega arith) (omega arith) keeps-here);
+        store = store-same book (made + field book c 1) 15616 (omega (arith, X .room)) keeps-here ∙ entered-store book made (field book c 1) o (field book c 2) (field book c 3) ws (X .slots) (X .room) (X .ties);
+        pairs = (rw (zero-add (field book a 2)) at b) ∙ rw (← (X .counts)) refl;
+        solved = d;
+        ready = pairs-here;
+        ends = rw (z, p, u) at E;
+      }

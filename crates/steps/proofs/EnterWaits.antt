@@ -24,29 +24,44 @@ module _ (book : List ℕ) (t : Tops) (ws ws′ : List ℕ) (a e c o left : ℕ)
   trail-room = fits-most (t .made) (t .trail) ws (S .slots .room) (S .fits)
 
   mid-agree : Agree t ws (E .mid)
-  mid-agree = record
-      { slots = E .below
-      ; trail = keeps-narrow (omega arith) (omega (arith, trail-room)) (E .above)
-      ; cells = keeps-narrow (omega arith) (omega (arith, S .cells-most)) (E .above)
-      ; programs = keeps-narrow (omega arith) (omega (arith, S .programs-most)) (E .above)
-      ; alternatives = keeps-narrow (omega arith) (omega (arith, S .alternatives-most)) (E .above) }
+  mid-agree = record {
+    slots = E .below;
+    trail = keeps-narrow (omega arith) (omega (arith, trail-room)) (E .above);
+    cells = keeps-narrow (omega arith) (omega (arith, S .cells-most)) (E .above);
+    programs = keeps-narrow (omega arith) (omega (arith, S .programs-most)) (E .above);
+    alternatives = keeps-narrow (omega arith) (omega (arith, S .alternatives-most)) (E .above);
+  }
 
   abbrev pub topsMid : Tops
   topsMid = withMade t (t .made + field book c 1)
 
   mid-sound : Sound book (E .mid) topsMid
-  mid-sound = record
-      { slots = E .ready .slots; fits = E .ready .fits; cells-some = S .cells-some; programs-some = S .programs-some; cells-most = S .cells-most; programs-most = S .programs-most
-      ; alternatives-most = S .alternatives-most; small = λ k l. rw (mid-agree .trail .same (2048 + k) (omega arith) (omega arith)) (S .small k l) }
+  mid-sound = record {
+    slots = E .ready .slots;
+    fits = E .ready .fits;
+    cells-some = S .cells-some;
+    programs-some = S .programs-some;
+    cells-most = S .cells-most;
+    programs-most = S .programs-most;
+    alternatives-most = S .alternatives-most;
+    small = λ k l. rw (mid-agree .trail .same (2048 + k) (omega arith) (omega arith)) (S .small k l);
+  }
 
   -- after unifying, however it ended
   abbrev pub topsAfter : Tops
   topsAfter = withTrail topsMid (r .trail)
 
   pub enters-sound : Sound book ws′ topsAfter
-  enters-sound = record
-      { slots = E .ends .pairs .slots; fits = E .ends .pairs .fits; cells-some = S .cells-some; programs-some = S .programs-some; cells-most = S .cells-most; programs-most = S .programs-most
-      ; alternatives-most = S .alternatives-most; small = λ k l. part k l (decLt k (t .trail)) }
+  enters-sound = record {
+    slots = E .ends .pairs .slots;
+    fits = E .ends .pairs .fits;
+    cells-some = S .cells-some;
+    programs-some = S .programs-some;
+    cells-most = S .cells-most;
+    programs-most = S .programs-most;
+    alternatives-most = S .alternatives-most;
+    small = λ k l. part k l (decLt k (t .trail));
+  }
     where
       part : (k : ℕ) → k < r .trail → Dec (k < t .trail) → getD ws′ (2048 + k) 0 < 2048
       part k l (yes h) = rw (E .ends .changed .bound .trail k h) (mid-sound .small k h)

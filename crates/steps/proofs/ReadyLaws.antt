@@ -52,11 +52,18 @@ module _ (book : List ℕ) (A : Accepted book) (made trail : ℕ) (ws : List ℕ
       let f = clause-fields book (A .formed .fields) c ci ck in
       let h = clause-head book (A .formed) c ci ck in
       let s = scoped-parts in
-      record
-        { slots = S; fits = T; atom = has-atom book a (ah .inside) ak; base = ee; clause = ci
-        ; head = has-atom book (headOf book c) (omega (arith, h .0)) (h .1)
-        ; counts = counts-same; room = room; ties-some = f .1
-        ; ties = tie-run book made (field book c 1) o n (field book c 2) (field book c 3) (omega (arith, f .2)) co (s .0)
-        ; below = run-of book R (ah .holder) e (made + field book c 1) a (has-atom book a (ah .inside) ak) (omega (arith, ah .room)) atom-scoped
-        ; head-below = run-of book R (field book c 1) made (made + field book c 1) (headOf book c) (has-atom book (headOf book c) (omega (arith, h .0)) (h .1)) (omega arith) (s .1)
-        ; tie-first = omega (arith, f .2, in-book book R c ci) }
+      record {
+        slots = S;
+        fits = T;
+        atom = has-atom book a (ah .inside) ak;
+        base = ee;
+        clause = ci;
+        head = has-atom book (headOf book c) (omega (arith, h .0)) (h .1);
+        counts = counts-same;
+        room = room;
+        ties-some = f .1;
+        ties = tie-run book made (field book c 1) o n (field book c 2) (field book c 3) (omega (arith, f .2)) co (s .0);
+        below = run-of book R (ah .holder) e (made + field book c 1) a (has-atom book a (ah .inside) ak) (omega (arith, ah .room)) atom-scoped;
+        head-below = run-of book R (field book c 1) made (made + field book c 1) (headOf book c) (has-atom book (headOf book c) (omega (arith, h .0)) (h .1)) (omega arith) (s .1);
+        tie-first = omega (arith, f .2, in-book book R c ci);
+      }

@@ -10,7 +10,9 @@ use Rattle.words.proofs.FrameLaws.{fits-most}
 use Rattle.branch.specs.State.{IsRest}
 use Rattle.branch.specs.Alternatives.{keepWords}
 use Rattle.branch.proofs.StateLaws.{sound-agree}
-use Rattle.branch.proofs.KeepLaws.{keep-agree, atom-unit, atomKept, atom-waiting}
+use mathlib.Core.Logic.{inl}
+use Rattle.words.proofs.StackLaws.{keeps-refl, keeps-trans}
+use Rattle.branch.proofs.KeepLaws.{keep-agree, kept-outside, atom-unit, atomKept, atom-waiting}
 use Rattle.book.proofs.Accepted.{Formed}
 use Rattle.machine.specs.declared.Tally.{Tally}
 use Rattle.machine.specs.Machine.{Thread, solving, Branch, Force, Moved, on, only, advance, candidates, tryAll}
@@ -18,7 +20,7 @@ use Rattle.machine.specs.Answers.{Line}
 use Rattle.machine.specs.Run.{Request, counted}
 use Rattle.words.specs.Words.{termWord}
 use Rattle.branch.specs.State.{Tops, IsBranch, Sound, Waiting, putCell}
-use Rattle.branch.proofs.TakeLaws.{CellAt, and-unit, and-sound, and-branch, and-waiting, two-put}
+use Rattle.branch.proofs.TakeLaws.{CellAt, put-outside, and-unit, and-sound, and-branch, and-waiting, two-put}
 use Rattle.steps.specs.declared.Regs.{Regs}
 use Rattle.steps.specs.declared.Stepped.the-variants.{Onward}
 use Rattle.steps.specs.Takes.{andWords, andRegs, backRegs}
@@ -39,13 +41,14 @@ one-unit left t u threads h e q y ls =
 pub and-steps : (book : List ℕ) (F : Formed book) (ws ws′ : List ℕ) (r : Regs) (left : ℕ) (x : Branch) (threads : List Thread) → 0 < left → Sound book ws (topsOf r)
     → (B : IsBranch book ws (topsOf r) (r .cell) (r .taken) (r .supposed) x) → Waiting book ws (topsOf r) threads
     → (X : CellAt book ws (r .made) (r .cells) (r .programs) (r .cell) (x .goals)) → kindAt book (X .g) ≡ andKind → r .taken < 512
-    → ws′ ≡ andWords book r (X .g) (X .b) (X .p) (X .q) ws → StepGives book ws ws′ left (solving x ∷ threads) (Onward (andRegs r) 1)
+    → ws′ ≡ andWords book r (X .g) (X .b) (X .p) (X .q) ws → StepGives book ws ws′ r left (solving x ∷ threads) (Onward (andRegs r) 1)
 unfolding andWords andRegs
 and-steps book F ws ws′ r left x threads h S B W X k l e =
     rw e
-    (steps-on {used = 1} h
+    (steps-on {r′ = andRegs r} {used = 1} h (omega arith)
+    (keeps-trans (put-outside 13568 15616 (r .cells) _ (X .p) (X .q) ws (inl (omega (arith, B .cells-few)))) (put-outside 13568 15616 (r .cells + 1) _ (X .p) (r .cells) _ (inl (omega (arith, B .cells-few)))))
     (in-hand refl (and-sound book F (topsOf r) ws (r .cell) (r .taken) (r .supposed) x S B X k l) (and-branch book F (topsOf r) ws (r .cell) (r .taken) (r .supposed) x S B X k l)
-      (and-waiting book F (topsOf r) ws (r .cell) (r .taken) (r .supposed) x S B X k l W))
+    (and-waiting book F (topsOf r) ws (r .cell) (r .taken) (r .supposed) x S B X k l W))
     (one-unit left (solving x) _ threads h (and-unit book F (r .made) (r .cells) (r .programs) (r .cell) ws x X k (rw (B .taken-same) l))))
 
 -- what the code of take_and writes
@@ -63,24 +66,24 @@ module _ (book : List ℕ) (F : Formed book) (ws : List ℕ) (r : Regs) (left : 
       let z : left ≡ suc (left - 1) = omega arith in
       ap (λ (n : ℕ). runOn q n y ls (solving x ∷ threads)) z ∙ unit-on q (left - 1) (solving x) us threads y ls e ∙ ap (λ (v : Tally). runOn q (left - 1) v ls (us ++ threads)) (one-spent y)
 
-  pub atom-fails : candidates (field book (X .g) 1) (field book (X .g) 2) (X .program) ≡ [] → StepGives book ws ws left (solving x ∷ threads) (Onward (backRegs r (r .alternatives)) 1)
+  pub atom-fails : candidates (field book (X .g) 1) (field book (X .g) 2) (X .program) ≡ [] → StepGives book ws ws r left (solving x ∷ threads) (Onward (backRegs r (r .alternatives)) 1)
   unfolding backRegs tryAll
-  atom-fails e = steps-on {used = 1} h (going-back refl S W) (gives [] (atom-unit book F (topsOf r) ws (r .cell) (r .taken) (r .supposed) x S B X k l [] e))
+  atom-fails e = steps-on {r′ = backRegs r (r .alternatives)} {used = 1} h (omega arith) (keeps-refl 13568 15616 ws) (going-back refl S W) (gives [] (atom-unit book F (topsOf r) ws (r .cell) (r .taken) (r .supposed) x S B X k l [] e))
 
   pub atom-enters : (q i : ℕ) (f : Force) (after : List Force) (ws′ : List ℕ) → IsRest book ws (r .made) (r .programs) q i (f ∷ after)
       → candidates (field book (X .g) 1) (field book (X .g) 2) (f ∷ after) ≡ f ∷ candidates (field book (X .g) 1) (field book (X .g) 2) after
       → candidates (field book (X .g) 1) (field book (X .g) 2) (X .program) ≡ f ∷ candidates (field book (X .g) 1) (field book (X .g) 2) after
       → ws′ ≡ keepWords ws (r .alternatives) (atomKept book F (topsOf r) ws (r .cell) (r .taken) (r .supposed) x S B X k l q i)
-      → StepGives book ws ws′ left (solving x ∷ threads) (Onward (backRegs r (suc (r .alternatives))) 1)
+      → StepGives book ws ws′ r left (solving x ∷ threads) (Onward (backRegs r (suc (r .alternatives))) 1)
   unfolding backRegs tryAll
   atom-enters q i f after ws′ a b c e =
       let n : r .alternatives < 512 = omega (arith, B .alternatives-few) in
       let A = keep-agree ws (r .alternatives) (atomKept book F (topsOf r) ws (r .cell) (r .taken) (r .supposed) x S B X k l q i) n (S .slots .size) (topsOf r) refl (S .slots .room)
-          (fits-most (r .made) (r .trail) ws (S .slots .room) (S .fits)) (S .cells-most) (S .programs-most) in
+      (fits-most (r .made) (r .trail) ws (S .slots .room) (S .fits)) (S .cells-most) (S .programs-most) in
       let T = sound-agree A S in
       rw e
-      (steps-on {r = backRegs r (suc (r .alternatives))} {used = 1} h
+      (steps-on {r′ = backRegs r (suc (r .alternatives))} {used = 1} h (omega arith) (kept-outside ws (r .alternatives) _ n (S .slots .size) 13568 15616 (inl (omega arith)))
       (going-back refl
-        (record { slots = T .slots; fits = T .fits; cells-some = T .cells-some; programs-some = T .programs-some; cells-most = T .cells-most; programs-most = T .programs-most; alternatives-most = omega arith; small = T .small })
-        (atom-waiting book F (topsOf r) ws (r .cell) (r .taken) (r .supposed) x S B X k l q i f after a b W))
+      (record { slots = T .slots; fits = T .fits; cells-some = T .cells-some; programs-some = T .programs-some; cells-most = T .cells-most; programs-most = T .programs-most; alternatives-most = omega arith; small = T .small })
+      (atom-waiting book F (topsOf r) ws (r .cell) (r .taken) (r .supposed) x S B X k l q i f after a b W))
       (gives _ (atom-unit book F (topsOf r) ws (r .cell) (r .taken) (r .supposed) x S B X k l _ c)))

@@ -2,7 +2,8 @@
 use mathlib.Core.Path.{_≡_}
 use mathlib.Core.Bool.{Bool, true, false}
 use mathlib.Core.List.{List, [], _∷_}
-use Prim.Native.Nat.{ℕ, suc, _+_, _-_, _≤_, _<_}
+use Prim.Native.Nat.{ℕ, suc, _+_, _-_, _*_, _≤_, _<_}
+use lib.ListN.{length}
 use Rattle.machine.specs.declared.Limit.{Limit}
 use Rattle.machine.specs.declared.Ending.{Ending}
 use Rattle.machine.specs.declared.Ending.the-variants.{Complete, Enough, Stopped}
@@ -10,10 +11,11 @@ use Rattle.machine.specs.declared.Tally.{Tally}
 use Rattle.machine.specs.Machine.{Thread, solving, Branch}
 use Rattle.machine.specs.Answers.{Line}
 use Rattle.machine.specs.Run.{Request, State, Outgoing, next, ended, goOn, Result, run}
+use Rattle.words.specs.Frame.{Keeps}
 use Rattle.branch.specs.State.{Tops, IsBranch, Sound, Waiting}
 use Rattle.steps.specs.declared.Regs.{Regs}
 use Rattle.steps.specs.declared.Stepped.{Stepped}
-use Rattle.steps.specs.declared.Stepped.the-variants.{Onward, Answer, Finished}
+use Rattle.steps.specs.declared.Stepped.the-variants.{Onward, Finished}
 
 -- n units more from a list of threads
 unfoldable pub runOut : Request → ℕ → Outgoing → Result
@@ -36,14 +38,21 @@ pub data Stands (book ws : List ℕ) (r : Regs) : List Thread → Type 0 where
       → IsBranch book ws (topsOf r) (r .cell) (r .taken) (r .supposed) b → Waiting book ws (topsOf r) threads → Stands book ws r (solving b ∷ threads)
   going-back : {threads : List Thread} → r .solving ≡ false → Sound book ws (topsOf r) → Waiting book ws (topsOf r) threads → Stands book ws r threads
 
--- WHAT ONE STEP OF THE CODE GIVES, with `left` units of the budget: it goes on, with so many units; an answer is due on the branch in hand; or the run has ended.
--- A step takes a goal, or goes back and, if the alternative is a clause, enters it and unifies.
-pub data StepGives (book ws ws′ : List ℕ) (left : ℕ) (threads : List Thread) : Stepped → Type 0 where
-  steps-on : {r : Regs} {used : ℕ} {threads′ : List Thread} → used ≤ left → Stands book ws′ r threads′
+-- 1 while going back, 0 with a branch in hand: a step without a unit can only go from the first to the second, so the search ends
+abbrev pub phase : Bool → ℕ
+phase true = 0
+phase false = 1
+
+-- WHAT ONE STEP OF THE CODE GIVES, with `left` units of the budget: it goes on, with so many units; or the run has ended.
+-- A step takes a goal, or goes back and, if the alternative is a clause, enters it and unifies. The words from 13568 to 15615, of the answer writer, stay.
+pub data StepGives (book ws ws′ : List ℕ) (r : Regs) (left : ℕ) (threads : List Thread) : Stepped → Type 0 where
+  steps-on : {r′ : Regs} {used : ℕ} {threads′ : List Thread} → used ≤ left → phase (r′ .solving) < 2 * used + phase (r .solving) → Keeps 13568 15616 ws ws′ → Stands book ws′ r′ threads′
       → ((q : Request) (y : Tally) (ls : List Line) → runOn q left y ls threads ≡ runOn q (left - used) (spentUnits used y) ls threads′)
-      → StepGives book ws ws′ left threads (Onward r used)
-  steps-answer : {b : Branch} {rest : List Thread} → threads ≡ solving b ∷ rest → b .goals ≡ [] → ws′ ≡ ws
-      → StepGives book ws ws′ left threads Answer
-  steps-end : {e : Ending} {used : ℕ} → used ≤ left
+      → StepGives book ws ws′ r left threads (Onward r′ used)
+  steps-end : {e : Ending} {used : ℕ} → used ≤ left → length ws′ ≡ length ws
       → ((q : Request) (y : Tally) (ls : List Line) → runOn q left y ls threads ≡ record { ending = e; tally = spentUnits used y; lines = ls })
-      → StepGives book ws ws′ left threads (Finished e used)
+      → StepGives book ws ws′ r left threads (Finished e used)
+
+-- the contract of a step: whatever threads the registers and the workspace stand for
+abbrev pub StepContract : List ℕ → List ℕ → List ℕ → Regs → ℕ → Stepped → Type 0
+StepContract book ws ws′ r left o = (threads : List Thread) → Stands book ws r threads → StepGives book ws ws′ r left threads o

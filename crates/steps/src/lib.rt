@@ -6,9 +6,7 @@ ghost use Rattle.words.specs.Readable.{Readable};
 ghost use Rattle.book.specs.Records.{field as bookField, records};
 ghost use Rattle.steps.specs.Enters.{EnterReady, Enters};
 ghost use Rattle.steps.specs.Takes.{andWords, andRegs};
-
 use machine::Ending;
-use machine::Limit;
 use unifier::Unified;
 
 // The registers of the search: how much of each region is in use, and the branch in hand, if there is one.
@@ -24,21 +22,24 @@ pub struct Regs {
     pub solving: bool,
 }
 
-// What a step gives: the registers and the units that it took; an answer is due; or the run has ended.
+// What a step gives: the registers and the units that it took; or the run has ended, after so many units.
 pub enum Stepped {
     Onward(Regs, u32),
-    Answer,
     Finished(Ending, u32),
 }
 
-// What writing an answer gives: so many records; or a limit cut it off.
-pub enum Wrote {
-    Whole(u32),
-    Cut(Limit),
-}
-
 // Enters clause c, whose outer variables are from o on, for atom a at base e, and unifies.
-pub fn enter(book: &[u8], made: u32, ws: &mut [u32], a: u32, e: u32, c: u32, o: u32, trail: u32, left: u32) -> Unified
+pub fn enter(
+    book: &[u8],
+    made: u32,
+    ws: &mut [u32],
+    a: u32,
+    e: u32,
+    c: u32,
+    o: u32,
+    trail: u32,
+    left: u32,
+) -> Unified
     requires { ⌜ Readable (now book) ⌝ }
     requires { ⌜ EnterReady (now book) made trail (now ws) a e c o ⌝ }
     ensures { λ r. ⌜ Enters (now (book .entry)) made trail (now (ws .entry)) (now (ws .exit)) a e c o left r ⌝ }

@@ -2,7 +2,7 @@
 use mathlib.Core.Path.{_≡_, refl, sym, _∙_, ap}
 use mathlib.Core.Bool.{Bool, true, false}
 use mathlib.Core.List.{List, [], _∷_}
-use Prim.Native.Nat.{ℕ, suc, _+_, _-_, _*_, _/_, _%_, _<_}
+use Prim.Native.Nat.{ℕ, suc, _+_, _-_, _*_, _<_}
 use native.Mathlib.Omega.{arith}
 use lib.ListN.{getD}
 use Rattle.machine.specs.declared.Ending.the-variants.{Complete}
@@ -14,19 +14,13 @@ use Rattle.words.proofs.FrameLaws.{undo-keeps}
 use Rattle.branch.specs.declared.Back.{Back}
 use Rattle.branch.specs.State.{Tops, Sound, Kept, Alternative, Alternative.other-goal, Alternative.other-clause, Waiting, Waiting.none-waiting, Waiting.one-waiting}
 use Rattle.branch.specs.Alternatives.{backOf}
-use Rattle.branch.proofs.BackLaws.{Resumed, resume}
+use Rattle.branch.proofs.BackLaws.{low, high, Resumed, resume}
 use Rattle.steps.specs.declared.Regs.{Regs}
 use Rattle.steps.specs.declared.Stepped.the-variants.{Finished}
 use Rattle.steps.specs.Search.{runOut, runOn, topsOf, Stands, Stands.in-hand, Stands.going-back, StepGives, StepGives.steps-end}
 use Rattle.returning.specs.Returns.{topsAt, Again, Returned, Returned.to-goal, Returned.to-clause}
 use Rattle.returning.proofs.RenewLaws.{goals-below}
 use Rattle.returning.proofs.CandidateLaws.{none-spent}
-
-low : (a b w : ℕ) → b < 4096 → w ≡ 4096 * a + b → w % 4096 ≡ b
-low a b w h e = omega arith
-
-high : (a b w : ℕ) → b < 4096 → w ≡ 4096 * a + b → w / 4096 ≡ a
-high a b w h e = omega arith
 
 tops-same : (x : Back) (t : Tops) (k : ℕ) → x .made ≡ t .made → x .trail ≡ t .trail → x .cells ≡ t .cells → x .programs ≡ t .programs → t .alternatives ≡ k → topsAt x k ≡ t
 tops-same x t k a b c d e = rw (a, b, c, d, ← e) refl

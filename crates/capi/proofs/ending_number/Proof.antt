@@ -1,5 +1,5 @@
 use borrow.Author.Needs.{needs}
-use Rattle.machine.specs.Run.{endingNumber}
+use Rattle.machine.specs.Run.{endingNumber, limitNumber}
 use Rattle.capi.proofs.ending_number.Statement.{statement}
 use Rattle.capi.proofs.ending_number.Tie as tie
 
@@ -28,31 +28,31 @@ enum-told-7 : tie.Need-enum-told-7
 enum-told-7 c = search needs
 
 returns : tie.Need-returns
-unfolding endingNumber
+unfolding endingNumber limitNumber
 returns c = cc
 
 returns-2 : tie.Need-returns-2
-unfolding endingNumber
+unfolding endingNumber limitNumber
 returns-2 c = cc
 
 returns-3 : tie.Need-returns-3
-unfolding endingNumber
+unfolding endingNumber limitNumber
 returns-3 c = cc
 
 returns-4 : tie.Need-returns-4
-unfolding endingNumber
+unfolding endingNumber limitNumber
 returns-4 c = cc
 
 returns-5 : tie.Need-returns-5
-unfolding endingNumber
+unfolding endingNumber limitNumber
 returns-5 c = cc
 
 returns-6 : tie.Need-returns-6
-unfolding endingNumber
+unfolding endingNumber limitNumber
 returns-6 c = cc
 
 returns-7 : tie.Need-returns-7
-unfolding endingNumber
+unfolding endingNumber limitNumber
 returns-7 c = cc
 
 pub ending-number-spec : {M : Type 1} → statement M

@@ -75,11 +75,11 @@ module _ (book : List ℕ) (R : Readable book) (A : Accepted book) (ws : List �
       enter-ready book A (x .made) (x .trail) ws′ (X .a) (X .e) clauseNow outerNow (H .n) S T (X .with .kind) (X .with .here) (X .with .base) (H .inside) (H .kind) (H .scoped) (H .room) head-matches room
 
   -- THE LIMIT: an entry would make more than 2,048 variables on the branch
-  made-now : length (X .b .store) ≡ x .made
+  pub made-now : length (X .b .store) ≡ x .made
   unfolding storeOf
   made-now = rw (X .again .there .store) (length-map (take (x .made) ws) (entryW book) ∙ length-take (x .made) ws ∙ omega (arith, X .again .sound .slots .size, X .again .sound .slots .room))
 
-  variables-now : variablesOf (X .f .text) ≡ field book clauseNow 1
+  pub variables-now : variablesOf (X .f .text) ≡ field book clauseNow 1
   variables-now = rw (clause-now .is) (clause-variables book (A .formed) clauseNow (clause-now .inside) (clause-now .kind))
 
   full : 2048 < x .made + field book clauseNow 1 → (cs : List Force) → advance (entering (X .b) (atomOf book (X .a) (X .e) (X .program)) (X .f) cs) ≡ stop Variables

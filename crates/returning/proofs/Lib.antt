@@ -5,6 +5,9 @@ pub mod OutcomeLaws
 pub mod RenewLaws
 pub mod CandidateLaws
 pub mod BodyGoals
+pub mod ClashUnits
+pub mod ClashLaws
+pub mod PassLaws
 pub mod TryLaws
 pub mod TryNeeds
 pub mod ReturnLaws

@@ -21,12 +21,7 @@ use Rattle.branch.proofs.StateLaws.{rest-agree, waiting-push}
 use Rattle.branch.proofs.KeepLaws.{kept-0, kept-1, kept-2, kept-3, kept-4, kept-5, kept-6, kept-outside, keep-agree}
 use Rattle.steps.proofs.LeaveLaws.{leaves-none, leaves-kept}
 use Rattle.returning.specs.Returns.{topsAt, atomOf, ToClause}
-use Rattle.returning.specs.Reentry.{Renewed}
-
--- the alternative with the next candidate at clause i of program q
-abbrev pub moved : Back → ℕ → ℕ → Back
-moved x q i = record
-    { made = x .made; trail = x .trail; cells = x .cells; programs = x .programs; cell = x .cell; taken = x .taken; supposed = x .supposed; atom = x .atom; call = x .call; node = q; index = i }
+use Rattle.returning.specs.Reentry.{moved, Renewed}
 
 -- a program of a place is below the top
 pub rest-below : {book ws : List ℕ} {made top p i : ℕ} {l : List Force} → 1 ≤ top → IsRest book ws made top p i l → p < top
@@ -135,7 +130,7 @@ module _ (book : List ℕ) (ws : List ℕ) (k : ℕ) (x : Back) (threads : List 
     abbrev Says : Candidate → Type 0
     Says o = (rest : List Force) → IsRest book ws (x .made) (x .programs) (x .node) (x .index + 1) rest → Sought book ws (x .made) (x .programs) f m rest o
 
-    here : (o : Candidate) → Says o → Sought book ws (x .made) (x .programs) (field book (X .a) 1) (field book (X .a) 2) (X .after) o
+    pub here : (o : Candidate) → Says o → Sought book ws (x .made) (x .programs) (field book (X .a) 1) (field book (X .a) 2) (X .after) o
     here o s =
         let z : a ≡ X .a = ae ∙ atom-record in
         let y : f ≡ field book (X .a) 1 = fe ∙ ap (λ (r : ℕ). field book r 1) z in

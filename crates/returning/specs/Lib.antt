@@ -1,3 +1,4 @@
 -- Going back to the newest alternative.
 pub mod Returns
 pub mod Reentry
+pub mod Passing

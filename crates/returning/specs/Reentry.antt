@@ -30,6 +30,11 @@ placeOf book ws q i = elim (eqb q 0) [
   | false ↦ record { clause = field book (field book (recOf (getD ws (8200 + 2 * q) 0)) 1 + i) 1; outer = baseOf (getD ws (8200 + 2 * q) 0) }
 ]
 
+-- the alternative with the next candidate at clause i of program q
+abbrev pub moved : Back → ℕ → ℕ → Back
+moved x q i = record
+    { made = x .made; trail = x .trail; cells = x .cells; programs = x .programs; cell = x .cell; taken = x .taken; supposed = x .supposed; atom = x .atom; call = x .call; node = q; index = i }
+
 -- the alternative for the candidates after this one is kept in the place of k; with none it is dropped, and there are n now
 pub record Renewed (book ws ws′ : List ℕ) (k : ℕ) (x : Back) (threads : List Thread) (X : ToClause book ws k x threads) (n : ℕ) : Type 0 where
   pub below : Keeps 0 (9232 + 8 * k) ws ws′

@@ -1,17 +1,19 @@
 // Going back to the newest alternative, and trying the next candidate of its atom.
 ghost use mathlib.Core.Path.{_≡_};
-ghost use mathlib.Core.Bool.{false};
+ghost use mathlib.Core.Bool.{true, false};
 ghost use mathlib.Core.List.{List};
-ghost use Prim.Native.Nat.{_+_, _<_};
+ghost use Prim.Native.Nat.{_+_, _-_, _*_, _/_, _%_, _≤_, _<_};
 ghost use lib.ListN.{length};
-ghost use Rattle.book.specs.Records.{records};
+ghost use Rattle.book.specs.Records.{field as bookField, records};
 ghost use Rattle.book.proofs.Accepted.{Accepted};
 ghost use Rattle.machine.specs.Machine.{Thread};
 ghost use Rattle.words.specs.Readable.{Readable};
+ghost use Rattle.words.specs.Words.{recOf};
 ghost use Rattle.branch.specs.Seeking.{OwnIndexed};
 ghost use Rattle.steps.specs.Search.{Stands, StepContract};
 ghost use Rattle.returning.specs.Returns.{Leads, ToClause};
-ghost use Rattle.returning.specs.Reentry.{placeOf, Renewed, bodyWords, frontOf, regsAgain, outcomeOf, Tries};
+ghost use Rattle.returning.specs.Reentry.{placeOf, moved, Renewed, bodyWords, frontOf, regsAgain, outcomeOf, Tries};
+ghost use Rattle.returning.specs.Passing.{firstArgument, FirstIs, Clashes, OnePass, PassGives, regsGone, unitsOf, laterBy};
 use branch::Back;
 use branch::Candidate;
 use machine::Ending;
@@ -156,7 +158,125 @@ fn outcome(x: Back, made: u32, n: u32, l: Front, u: Unified) -> Stepped
     }
 }
 
-// Tries the next candidate of alternative k, to which the search has just gone back.
+// Passing over one candidate: it stays; the next one, by program and number, is there; or there is none left.
+pub enum Pass {
+    Stay,
+    Onto(u32, u32),
+    Gone,
+}
+
+// Passing over candidates: the numbers with the next one; or there is none left. With the units that it took.
+pub enum Passed {
+    Next(Back, u32),
+    Through(Back, u32),
+}
+
+// The atom's first argument, read through, as a word; 0 if it has no argument.
+fn first_word(book: &[u8], ws: &[u32], k: u32, x: Back) -> u32
+    requires { ⌜ Readable (now book) ⌝ }
+    requires { ⌜ Accepted (now book) ⌝ }
+    requires { ⌜ ((threads : List Thread) × ToClause (now book) (now ws) k x threads) ⌝ }
+    ensures { λ w. ⌜ (4096 ≤ w → FirstIs (now (book .entry)) (now (ws .entry)) (x .made) (x .atom / 4096 - 1) (x .atom % 4096) w) ⌝ }
+{
+    let a = x.atom / 4096 - 1;
+    let m = words::field(book, a, 2);
+    if m == 0 {
+        return 0;
+    }
+    let first = words::field(book, a, 3);
+    let t = words::field(book, first, 1);
+    let w = words::word_for(book, x.atom % 4096, t);
+    words::read_through(book, x.made, ws, w)
+}
+
+// Whether the head of clause c has at its first argument a term of another symbol or argument count than word w.
+fn clashes(book: &[u8], c: u32, w: u32, made: u32) -> bool
+    requires { ⌜ Readable (now book) ⌝ }
+    requires { ⌜ (c < records (now book)) × (bookField (now book) c 4 < records (now book)) × (bookField (now book) (bookField (now book) c 4) 3 < records (now book)) × (firstArgument (now book) (bookField (now book) c 4) < records (now book)) ⌝ }
+    requires { ⌜ (4096 ≤ w) × (recOf w < records (now book)) × (made + bookField (now book) c 1 ≤ 2048) ⌝ }
+    ensures { λ r. ⌜ (r ≡ true → Clashes (now (book .entry)) made w c) ⌝ }
+{
+    let h = words::field(book, c, 4);
+    let l = words::field(book, h, 3);
+    let u = words::field(book, l, 1);
+    if words::field(book, u, 0) != 2 {
+        return false;
+    }
+    let r = w / 4096 - 1;
+    if words::field(book, r, 1) != words::field(book, u, 1) {
+        return true;
+    }
+    words::field(book, r, 2) != words::field(book, u, 2)
+}
+
+// Passes over the next candidate, if it clashes at once with the atom, whose first argument is the term of word w.
+fn pass_one(book: &[u8], ws: &[u32], k: u32, x: Back, w: u32) -> Pass
+    requires { ⌜ Readable (now book) ⌝ }
+    requires { ⌜ Accepted (now book) × OwnIndexed (now book) (now ws) ⌝ }
+    requires { ⌜ FirstIs (now book) (now ws) (x .made) (x .atom / 4096 - 1) (x .atom % 4096) w ⌝ }
+    requires { ⌜ ((threads : List Thread) × ToClause (now book) (now ws) k x threads) ⌝ }
+    ensures { λ o. ⌜ ((threads : List Thread) → ToClause (now (book .entry)) (now (ws .entry)) k x threads → OnePass (now (book .entry)) (now (ws .entry)) k x threads o) ⌝ }
+{
+    let p = place(book, ws, x);
+    if 2048 < x.made + words::field(book, p.clause, 1) {
+        return Pass::Stay;
+    }
+    if !clashes(book, p.clause, w, x.made) {
+        return Pass::Stay;
+    }
+    let a = x.atom / 4096 - 1;
+    let f = words::field(book, a, 1);
+    let m = words::field(book, a, 2);
+    match branch::seek(book, x.made, ws, x.programs, x.node, x.index + 1, f, m) {
+        Candidate::At(q, i) => Pass::Onto(q, i),
+        Candidate::Nothing => Pass::Gone,
+    }
+}
+
+// The numbers of an alternative with another candidate.
+fn at_place(x: Back, q: u32, i: u32) -> Back
+    ensures { λ y. ⌜ y ≡ moved x q i ⌝ }
+{
+    Back {
+        made: x.made,
+        trail: x.trail,
+        cells: x.cells,
+        programs: x.programs,
+        cell: x.cell,
+        taken: x.taken,
+        supposed: x.supposed,
+        atom: x.atom,
+        call: x.call,
+        node: q,
+        index: i,
+    }
+}
+
+// Passes over the candidates that clash at once with the atom: each is entered and fails at its first pair, two units.
+fn pass_over(book: &[u8], ws: &[u32], k: u32, x: Back, left: u32) -> Passed
+    requires { ⌜ Readable (now book) ⌝ }
+    requires { ⌜ Accepted (now book) × OwnIndexed (now book) (now ws) ⌝ }
+    requires { ⌜ ((threads : List Thread) × ToClause (now book) (now ws) k x threads) ⌝ }
+    ensures { λ o. ⌜ ((threads : List Thread) → ToClause (now (book .entry)) (now (ws .entry)) k x threads → PassGives (now (book .entry)) (now (ws .entry)) k x left threads o) ⌝ }
+{
+    let w = first_word(book, ws, k, x);
+    if w < 4096 {
+        return Passed::Next(x, 0);
+    }
+    let mut y = x;
+    let mut used: u32 = 0;
+    while 1 < left - used {
+        match pass_one(book, ws, k, y, w) {
+            Pass::Stay => return Passed::Next(y, used),
+            Pass::Gone => return Passed::Through(y, used + 2),
+            Pass::Onto(q, i) => y = at_place(y, q, i),
+        }
+        used += 2;
+    }
+    Passed::Next(y, used)
+}
+
+// Enters the next candidate of alternative k.
 fn try_next(book: &[u8], ws: &mut [u32], k: u32, x: Back, left: u32) -> Stepped
     requires { ⌜ Readable (now book) ⌝ }
     requires { ⌜ Accepted (now book) × OwnIndexed (now book) (now ws) ⌝ }
@@ -183,6 +303,55 @@ fn try_next(book: &[u8], ws: &mut [u32], k: u32, x: Back, left: u32) -> Stepped
         left - 1,
     );
     outcome(x, made, n, l, u)
+}
+
+// The registers for going back from an alternative that has no candidate left, with n alternatives.
+fn given_up(x: Back, n: u32) -> Regs
+    ensures { λ r. ⌜ r ≡ regsGone x n ⌝ }
+{
+    let supposed = x.supposed == 1;
+    Regs {
+        made: x.made,
+        trail: x.trail,
+        cells: x.cells,
+        programs: x.programs,
+        alternatives: n,
+        cell: x.cell,
+        taken: x.taken,
+        supposed: supposed,
+        solving: false,
+    }
+}
+
+// A step that came after so many units.
+fn later(used: u32, s: Stepped) -> Stepped
+    requires { ⌜ used + unitsOf s < 4294967296 ⌝ }
+    ensures { λ o. ⌜ o ≡ laterBy used s ⌝ }
+{
+    match s {
+        Stepped::Onward(r, n) => Stepped::Onward(r, used + n),
+        Stepped::Finished(e, n) => Stepped::Finished(e, used + n),
+    }
+}
+
+// Tries the candidates of alternative k, to which the search has just gone back: those that clash at once are passed over, and the next one is entered.
+fn try_all(book: &[u8], ws: &mut [u32], k: u32, x: Back, left: u32) -> Stepped
+    requires { ⌜ Readable (now book) ⌝ }
+    requires { ⌜ Accepted (now book) × OwnIndexed (now book) (now ws) ⌝ }
+    requires { ⌜ 0 < left ⌝ }
+    requires { ⌜ ((threads : List Thread) × ToClause (now book) (now ws) k x threads) ⌝ }
+    ensures { λ o. ⌜ Tries (now (book .entry)) (now (ws .entry)) (now (ws .exit)) k x left o ⌝ }
+{
+    match pass_over(book, ws, k, x, left) {
+        Passed::Through(y, used) => Stepped::Onward(given_up(y, k), used),
+        Passed::Next(y, used) => {
+            if left <= used {
+                return Stepped::Finished(Ending::Stopped(Limit::Budget), used);
+            }
+            let s = try_next(book, ws, k, y, left - used);
+            later(used, s)
+        }
+    }
 }
 
 // The branch of an alternative in hand again, with n alternatives left.
@@ -222,5 +391,5 @@ pub fn back(book: &[u8], ws: &mut [u32], r: Regs, left: u32) -> Stepped
     if left == 0 {
         return Stepped::Finished(Ending::Stopped(Limit::Budget), 0);
     }
-    try_next(book, ws, k, x, left)
+    try_all(book, ws, k, x, left)
 }

@@ -26,7 +26,7 @@ use Rattle.index.specs.Runs.{headMatches}
 use Rattle.branch.proofs.FromScoped.{run-of, tie-run}
 use Rattle.steps.specs.Enters.{headOf, EnterReady}
 
-has-atom : (book : List ℕ) (r : ℕ) → r < records book → kindAt book r ≡ atomKind → HasArguments book r
+pub has-atom : (book : List ℕ) (r : ℕ) → r < records book → kindAt book r ≡ atomKind → HasArguments book r
 unfolding kindAt
 has-atom book r h k = (h, inr (says (kindOf (field book r 0)) k (kind-says (field book r 0))))
   where

@@ -10,7 +10,7 @@ use Rattle.returning.proofs.back.Reads as reads
 use Rattle.returning.proofs.back.Lts as lts
 use Rattle.branch.proofs.go_back.Reads as go-back-reads
 use Rattle.returning.proofs.restored.Reads as restored-reads
-use Rattle.returning.proofs.try_next.Reads as try-next-reads
+use Rattle.returning.proofs.try_all.Reads as try-all-reads
 
 -- src/lib.rt:214:9
 returns : tie.Need-returns
@@ -45,8 +45,8 @@ returns-3 : tie.Need-returns-3
 returns-3 c = λ threads Z. let p = c .before .before .before .before .before .before .before .before .before .before .before .before .pre in spent-here _ _ (c .before .before .before .before .before .before .before .before .before .before .before .before .args .r) threads (p .1 .1 .0) Z (c .before .before .before .before .before .before .before .before .if1 .left) _ _ (c .before .before .before .before .before .go-back .ensures .0) (c .before .before .before .before .before .go-back .ensures .1) _ (p .0) (p .1 .0 .0) (c .before .if2 .left) (c .if3 .taken)
 
 -- src/lib.rt:224:5
-try-next-requires : tie.Need-try-next-requires
-try-next-requires c κs = let p = c .before .before .before .before .before .before .before .before .before .before .before .before .before .pre in (p .0, ((p .1 .0 .0, index-stays _ _ (c .before .before .before .before .before .before .before .before .before .before .before .before .before .args .r) _ (p .1 .1 .0) (p .1 .1 .1 .1) (c .before .before .before .before .before .before .before .before .before .if1 .left) _ _ (c .before .before .before .before .before .before .go-back .ensures .0) (c .before .before .before .before .before .before .go-back .ensures .1) (own-ready _ (p .1 .0 .0)) (p .1 .0 .1)), (omega (arith, c .before .if3 .left), next-ready _ _ (c .before .before .before .before .before .before .before .before .before .before .before .before .before .args .r) _ (p .1 .1 .0) (p .1 .1 .1 .1) (c .before .before .before .before .before .before .before .before .before .if1 .left) _ _ (c .before .before .before .before .before .before .go-back .ensures .0) (c .before .before .before .before .before .before .go-back .ensures .1) (c .before .before .if2 .left))))
+try-all-requires : tie.Need-try-all-requires
+try-all-requires c κs = let p = c .before .before .before .before .before .before .before .before .before .before .before .before .before .pre in (p .0, ((p .1 .0 .0, index-stays _ _ (c .before .before .before .before .before .before .before .before .before .before .before .before .before .args .r) _ (p .1 .1 .0) (p .1 .1 .1 .1) (c .before .before .before .before .before .before .before .before .before .if1 .left) _ _ (c .before .before .before .before .before .before .go-back .ensures .0) (c .before .before .before .before .before .before .go-back .ensures .1) (own-ready _ (p .1 .0 .0)) (p .1 .0 .1)), (omega (arith, c .before .if3 .left), next-ready _ _ (c .before .before .before .before .before .before .before .before .before .before .before .before .before .args .r) _ (p .1 .1 .0) (p .1 .1 .1 .1) (c .before .before .before .before .before .before .before .before .before .if1 .left) _ _ (c .before .before .before .before .before .before .go-back .ensures .0) (c .before .before .before .before .before .before .go-back .ensures .1) (c .before .before .if2 .left))))
 
 -- src/lib.rt:206:1
 same-length-3 : tie.Need-same-length-3
@@ -54,7 +54,7 @@ same-length-3 c = search needs
 
 -- src/lib.rt:206:1
 returns-4 : tie.Need-returns-4
-returns-4 c = λ threads Z. tried-next _ _ (c .before .before .before .before .before .before .before .before .before .before .before .before .before .before .before .before .args .r) threads (c .before .before .before .before .before .before .before .before .before .before .before .before .before .before .before .before .pre .1 .1 .0) Z (c .before .before .before .before .before .before .before .before .before .before .before .before .if1 .left) _ _ (c .before .before .before .before .before .before .before .before .before .go-back .ensures .0) (c .before .before .before .before .before .before .before .before .before .go-back .ensures .1) _ _ _ (c .before .before .before .before .before .if2 .left) (c .before .before .try-next .ensures)
+returns-4 c = λ threads Z. tried-next _ _ (c .before .before .before .before .before .before .before .before .before .before .before .before .before .before .before .before .args .r) threads (c .before .before .before .before .before .before .before .before .before .before .before .before .before .before .before .before .pre .1 .1 .0) Z (c .before .before .before .before .before .before .before .before .before .before .before .before .if1 .left) _ _ (c .before .before .before .before .before .before .before .before .before .go-back .ensures .0) (c .before .before .before .before .before .before .before .before .before .go-back .ensures .1) _ _ _ (c .before .before .before .before .before .if2 .left) (c .before .before .try-all .ensures)
 
 pub back-spec : {M : Type 1} → statement M
 back-spec =
@@ -68,6 +68,6 @@ back-spec =
     returns-2
     same-length-2
     returns-3
-    try-next-requires
+    try-all-requires
     same-length-3
     returns-4)

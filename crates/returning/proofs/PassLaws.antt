@@ -1,0 +1,282 @@
+-- Passing over candidates, as the code does it.
+use mathlib.Core.Path.{_≡_, refl, sym, _∙_, ap}
+use mathlib.Core.Logic.{_⊎_, inl, inr}
+use mathlib.Core.Bool.{Bool, true, false, _&&_, not}
+use mathlib.Core.List.{List, [], _∷_, _++_}
+use Prim.Native.Nat.{ℕ, zero, suc, _+_, _-_, _*_, _/_, _%_, _≤_, _<_}
+use native.Mathlib.Omega.{arith}
+use native.Mathlib.Nat.{sub-zero}
+use borrow.Author.Tests.{eq-eqb, ne-eqb}
+use lib.Dec.{eqb}
+use lib.ListN.{length}
+use Rattle.book.specs.Records.{field, records}
+use Rattle.book.proofs.Accepted.{Accepted}
+use Rattle.machine.specs.declared.Tally.{Tally}
+use Rattle.machine.specs.declared.Ending.the-variants.{Stopped as StoppedEnding}
+use Rattle.machine.specs.declared.Limit.the-variants.{Budget}
+use Rattle.machine.specs.Machine.{Force, Thread, Branch, entering, candidates, tryAll}
+use Rattle.machine.specs.Answers.{Line}
+use Rattle.machine.specs.Run.{Request}
+use Rattle.words.specs.Words.{wordFor, symW, recOf, baseOf}
+use Rattle.words.specs.Readable.{Readable, TextRec, HasArguments}
+use Rattle.words.specs.Good.{Good, GoodTerm, Slots, ReadThrough}
+use Rattle.words.proofs.ReadLaws.{in-book, link-in}
+use Rattle.words.proofs.SlotLaws.{good-term}
+use Rattle.branch.specs.declared.Back.{Back}
+use Rattle.branch.specs.declared.Candidate.{Candidate}
+use Rattle.branch.specs.declared.Candidate.the-variants.{At, Nothing}
+use Rattle.branch.specs.State.{IsRest}
+use Rattle.branch.specs.Seeking.{Sought, Sought.sought, Sought.no-more}
+use Rattle.steps.specs.declared.Regs.{Regs}
+use Rattle.steps.specs.declared.Stepped.{Stepped}
+use Rattle.steps.specs.declared.Stepped.the-variants.{Onward, Finished}
+use Rattle.steps.specs.Search.{runOn, spentUnits, Stands.going-back, StepGives, StepGives.steps-on, StepGives.steps-end}
+use Rattle.steps.proofs.ReadyLaws.{has-atom}
+use Rattle.steps.proofs.LeaveLaws.{leaves-none}
+use Rattle.returning.specs.declared.Pass.{Pass}
+use Rattle.returning.specs.declared.Pass.the-variants.{Stay, Onto, Gone}
+use Rattle.returning.specs.declared.Passed.{Passed}
+use Rattle.returning.specs.declared.Passed.the-variants.{Next, Through}
+use Rattle.returning.specs.Returns.{Again, Candidates, atomOf, ToClause}
+use Rattle.returning.specs.Reentry.{moved}
+use Rattle.returning.specs.Passing.{firstArgument, FirstIs, Clashes, Passes, OnePass, OnePass.stays, OnePass.moves, OnePass.gone, PassGives, PassGives.comes, PassGives.ends, regsGone, unitsOf, laterBy}
+use Rattle.returning.proofs.RenewLaws.{atom-record, atom-base, standing, here}
+use Rattle.returning.proofs.CandidateLaws.{clauseNow, clause-now, can-enter, none-spent, no-budget}
+use Rattle.returning.proofs.ClashLaws.{first-ready, first-good, pass-units}
+
+-- THE TEST OF A CLAUSE
+module _ (book : List ℕ) (made w c h l u r : ℕ) (he : h ≡ field book c 4) (le : l ≡ field book h 3) (ue : u ≡ field book l 1) (re : r ≡ w / 4096 - 1) where
+  u-first : u ≡ firstArgument book (field book c 4)
+  u-first = ue ∙ rw (le, he) refl
+
+  abbrev here-u : ℕ
+  here-u = firstArgument book (field book c 4)
+
+  module _ (fits : made + field book c 1 ≤ 2048) (k : ℕ) (ke : k ≡ field book u 0) (kind : k ≡ 2) where
+    is-term : field book here-u 0 ≡ 2
+    is-term = rw (← u-first) (sym ke ∙ kind)
+
+    pub clash-symbol : (f g : ℕ) → f ≡ field book r 1 → g ≡ field book u 1 → (f ≡ g → ⊥) → Clashes book made w c
+    unfolding symW recOf
+    clash-symbol f g fe ge d =
+        let x : f ≡ symW book w = fe ∙ rw re refl in
+        let y : g ≡ field book here-u 1 = ge ∙ rw u-first refl in
+        record { room = fits; term = is-term; differ = rw (← x, ← y, ne-eqb f g d) refl }
+
+    pub clash-count : (f g a b : ℕ) → f ≡ field book r 1 → g ≡ field book u 1 → f ≡ g → a ≡ field book r 2 → b ≡ field book u 2 → not (eqb a b) ≡ true → Clashes book made w c
+    unfolding symW recOf
+    clash-count f g a b fe ge d ae be t =
+        let x : f ≡ symW book w = fe ∙ rw re refl in
+        let y : g ≡ field book here-u 1 = ge ∙ rw u-first refl in
+        let p : a ≡ field book (recOf w) 2 = ae ∙ rw re refl in
+        let q : b ≡ field book here-u 2 = be ∙ rw u-first refl in
+        record { room = fits; term = is-term; differ = rw (← x, ← y, ← p, ← q, eq-eqb f g d) (is-false (eqb a b) t) }
+      where
+        is-false : (z : Bool) → not z ≡ true → z ≡ false
+        is-false false e = refl
+        is-false true e = let z : _≡_ {A = ℕ} 0 1 = cc in absurd (omega arith)
+
+pub no-clash : {T : Type 0} (b : Bool) → b ≡ false → b ≡ true → T
+no-clash b e f = let z : _≡_ {A = ℕ} 0 1 = cc in absurd (omega arith)
+
+module _ (book : List ℕ) (R : Readable book) (A : Accepted book) (ws : List ℕ) (k : ℕ) (x : Back) (threads : List Thread) (X : ToClause book ws k x threads) where
+  -- THE FIRST ARGUMENT
+  module _ (m : ℕ) (me : m ≡ field book (x .atom / 4096 - 1) 2) (some : m ≡ 0 → ⊥) where
+    some-here : 0 < field book (X .a) 2
+    some-here = let z : m ≡ field book (X .a) 2 = me ∙ ap (λ (a : ℕ). field book a 2) (atom-record book ws k x threads X) in omega arith
+
+    pub first-link : (first : ℕ) → first ≡ field book (x .atom / 4096 - 1) 3 → first < records book
+    first-link first e =
+        let z : first ≡ field book (X .a) 3 = e ∙ ap (λ (a : ℕ). field book a 3) (atom-record book ws k x threads X) in
+        let h = has-atom book (X .a) (X .with .here .inside) (X .with .kind) in
+        omega (arith, R .run (X .a) h, X .with .here .inside, some-here)
+
+    pub first-text : (first t : ℕ) → first ≡ field book (x .atom / 4096 - 1) 3 → t ≡ field book first 1
+        → (TextRec book t × (x .atom % 4096 < 4096)) × (Slots book (x .made) ws × Good book (x .made) (wordFor book (x .atom % 4096) t))
+    first-text first t e f =
+        let z : t ≡ firstArgument book (X .a) = f ∙ ap (λ (a : ℕ). field book a 1) e ∙ ap (λ (a : ℕ). firstArgument book a) (atom-record book ws k x threads X) in
+        let y = atom-base book ws k x threads X in
+        rw (z, y) ((first-ready book R A ws k x threads X some-here .0, X .with .base), (X .again .sound .slots, first-good book R A ws k x threads X some-here))
+
+    pub first-is : (first t w₀ w : ℕ) → first ≡ field book (x .atom / 4096 - 1) 3 → t ≡ field book first 1 → w₀ ≡ wordFor book (x .atom % 4096) t → ReadThrough book (x .made) ws w₀ w → 4096 ≤ w
+        → FirstIs book ws (x .made) (x .atom / 4096 - 1) (x .atom % 4096) w
+    first-is first t w₀ w e f g r l = record { some = omega arith; read = rw (g, f, e) at r; large = l }
+
+  -- ONE CANDIDATE
+  module _ (w : ℕ) (F : FirstIs book ws (x .made) (x .atom / 4096 - 1) (x .atom % 4096) w) where
+    first-here : FirstIs book ws (x .made) (X .a) (X .e) w
+    first-here = rw (atom-record book ws k x threads X, atom-base book ws k x threads X) at F
+
+    pub term-inside : recOf w < records book
+    term-inside = good-term book (x .made) w (X .again .sound .slots .room) (F .read .good) (F .large) .term .0
+
+    module _ (c : ℕ) (ce : c ≡ clauseNow book R A ws k x threads X) (room : x .made + field book c 1 ≤ 2048) where
+      -- the clause's head and its first argument are in the book
+      pub clash-ready : ((c < records book) × (field book c 4 < records book) × (field book (field book c 4) 3 < records book) × (firstArgument book (field book c 4) < records book))
+          × ((4096 ≤ w) × (recOf w < records book) × (x .made + field book c 1 ≤ 2048))
+      clash-ready =
+          let E = can-enter book R A ws k x threads X ws (X .again .sound .slots) (X .again .sound .fits) (rw ce at room) in
+          let run = R .run (field book (clauseNow book R A ws k x threads X) 4) (E .head) in
+          let h : 0 < field book (field book (clauseNow book R A ws k x threads X) 4) 2 = omega (arith, E .counts, first-here .some) in (
+            rw ce (E .clause, E .head .0, omega (arith, run, E .head .0, h), R .target (field book (clauseNow book R A ws k x threads X) 4) (field book (field book (clauseNow book R A ws k x threads X) 4) 3) (E .head) (omega arith) (omega (arith, h)) .0 .0),
+            (F .large, term-inside, room),
+          )
+
+      module _ (C : Clashes book (x .made) w c) (a f m : ℕ) (ae : a ≡ x .atom / 4096 - 1) (fe : f ≡ field book a 1) (me : m ≡ field book a 2) (o : Candidate)
+          (says : (rest : List Force) → IsRest book ws (x .made) (x .programs) (x .node) (x .index + 1) rest → Sought book ws (x .made) (x .programs) f m rest o) where
+        abbrev left-over : List Thread
+        left-over = tryAll (X .b) (atomOf book (X .a) (X .e) (X .program)) (candidates (field book (X .a) 1) (field book (X .a) 2) (X .after)) ++ X .ts
+
+        runs : (q : Request) (n : ℕ) (y : Tally) (ls : List Line) → runOn q (suc (suc n)) y ls threads ≡ runOn q n (spentUnits 2 y) ls left-over
+        runs = pass-units book R A ws k x threads X w first-here (rw ce at C)
+
+        sought-here : Sought book ws (x .made) (x .programs) (field book (X .a) 1) (field book (X .a) 2) (X .after) o
+        sought-here = here book ws k x threads X a f m ae fe me o says
+
+        pub one-onto : (q i : ℕ) → o ≡ At q i → OnePass book ws k x threads (Onto q i)
+        unfolding tryAll
+        one-onto q i e = go (rw e at sought-here)
+          where
+            go : Sought book ws (x .made) (x .programs) (field book (X .a) 1) (field book (X .a) 2) (X .after) (At q i) → OnePass book ws k x threads (Onto q i)
+            go (sought {c = g} {after = after} r y z) =
+                moves {q = q} {i = i} {threads′ = entering (X .b) (atomOf book (X .a) (X .e) (X .program)) g (candidates (field book (X .a) 1) (field book (X .a) 2) after) ∷ X .ts}
+                (record {
+                  b = X .b;
+                  ts = X .ts;
+                  a = X .a;
+                  e = X .e;
+                  program = X .program;
+                  f = g;
+                  after = after;
+                  again = record { supposed = X .again .supposed; flagged = X .again .flagged; sound = X .again .sound; there = X .again .there; waiting = X .again .waiting; few = X .again .few };
+                  with = record {
+                    atom = X .with .atom;
+                    base = X .with .base;
+                    kind = X .with .kind;
+                    here = X .with .here;
+                    called = X .with .called;
+                    program-is = X .with .program-is;
+                    clause = r;
+                    first = y;
+                    room = X .with .room;
+                    most = X .with .most;
+                  };
+                  is = refl;
+                })
+                (λ p n t ls. runs p n t ls ∙ ap (λ (cs : List Force). runOn p n (spentUnits 2 t) ls (tryAll (X .b) (atomOf book (X .a) (X .e) (X .program)) cs ++ X .ts)) z)
+
+        pub one-gone : o ≡ Nothing → OnePass book ws k x threads Gone
+        unfolding tryAll
+        one-gone e = go (rw e at sought-here)
+          where
+            go : Sought book ws (x .made) (x .programs) (field book (X .a) 1) (field book (X .a) 2) (X .after) Nothing → OnePass book ws k x threads Gone
+            go (no-more z) = gone {b = X .b} {ts = X .ts} (X .again) (λ p n t ls. runs p n t ls ∙ ap (λ (cs : List Force). runOn p n (spentUnits 2 t) ls (tryAll (X .b) (atomOf book (X .a) (X .e) (X .program)) cs ++ X .ts)) z)
+
+-- THE LOOP
+pub record PassInv (book ws : List ℕ) (k : ℕ) (x : Back) (left w : ℕ) (y : Back) (used : ℕ) : Type 0 where
+  pub within : used ≤ left
+  pub first : FirstIs book ws (y .made) (y .atom / 4096 - 1) (y .atom % 4096) w
+  pub some : (threads : List Thread) × ToClause book ws k y threads
+  pub passes : (threads : List Thread) → ToClause book ws k x threads → (threads′ : List Thread) × ToClause book ws k y threads′ × Passes left used threads threads′
+
+pub pass-none : (left : ℕ) (threads : List Thread) → Passes left 0 threads threads
+pass-none left threads q y ls = ap (λ (t : Tally). runOn q left t ls threads) (none-spent y) ∙ ap (λ (n : ℕ). runOn q n (spentUnits 0 y) ls threads) (sym (sub-zero left))
+
+spent-two : (used : ℕ) (y : Tally) → spentUnits 2 (spentUnits used y) ≡ spentUnits (used + 2) y
+unfolding spentUnits
+spent-two used y = let z : y .units + used + 2 ≡ y .units + (used + 2) = omega arith in rw z refl
+
+two-more : (left used : ℕ) (ts us vs : List Thread) → 1 < left - used → Passes left used ts us
+    → ((r : Request) (n : ℕ) (y : Tally) (ls : List Line) → runOn r (suc (suc n)) y ls us ≡ runOn r n (spentUnits 2 y) ls vs) → Passes left (used + 2) ts vs
+two-more left used ts us vs h P u q y ls =
+    let a : left - used ≡ suc (suc (left - (used + 2))) = omega arith in
+    P q y ls ∙ ap (λ (n : ℕ). runOn q n (spentUnits used y) ls us) a ∙ u q (left - (used + 2)) (spentUnits used y) ls ∙ ap (λ (t : Tally). runOn q (left - (used + 2)) t ls vs) (spent-two used y)
+
+module _ {book ws : List ℕ} {k : ℕ} {x : Back} {left w : ℕ} where
+  pub inv-start : FirstIs book ws (x .made) (x .atom / 4096 - 1) (x .atom % 4096) w → (threads : List Thread) × ToClause book ws k x threads → PassInv book ws k x left w x 0
+  inv-start F S = record { within = omega arith; first = F; some = S; passes = λ ts X. (ts, X, pass-none left ts) }
+
+  pub inv-more : (y : Back) (used q i : ℕ) (o : Pass) (y′ : Back) → PassInv book ws k x left w y used → 1 < left - used
+      → ((threads : List Thread) → ToClause book ws k y threads → OnePass book ws k y threads o) → o ≡ Onto q i → y′ ≡ moved y q i → PassInv book ws k x left w y′ (used + 2)
+  inv-more y used q i o y′ I h P e d = rw d (record {
+    within = omega (arith, I .within);
+    first = I .first;
+    some = let s = onto (I .some .0) (P (I .some .0) (I .some .1)) e in (s .0, s .1);
+    passes = λ ts X. let p = I .passes ts X in let s = onto (p .0) (P (p .0) (p .1)) e in (s .0, s .1, two-more left used ts (p .0) (s .0) h (p .2) (s .2));
+  })
+    where
+      onto : {o : Pass} (ts : List Thread) → OnePass book ws k y ts o → o ≡ Onto q i
+          → (us : List Thread) × ToClause book ws k (moved y q i) us × ((r : Request) (n : ℕ) (t : Tally) (ls : List Line) → runOn r (suc (suc n)) t ls ts ≡ runOn r n (spentUnits 2 t) ls us)
+      onto ts (moves {q = a} {i = b} {threads′ = us} Y u) e = let v : a ≡ q = cc in let z : b ≡ i = cc in (us, rw (v, z) at Y, u)
+      onto ts stays e = let z : _≡_ {A = ℕ} 0 1 = cc in absurd (omega arith)
+      onto ts (gone G u) e = let z : _≡_ {A = ℕ} 0 1 = cc in absurd (omega arith)
+
+  pub inv-next : (y : Back) (used : ℕ) → PassInv book ws k x left w y used → (threads : List Thread) → ToClause book ws k x threads → PassGives book ws k x left threads (Next y used)
+  inv-next y used I ts X = let p = I .passes ts X in comes {threads′ = p .0} (I .within) (p .1) (p .2)
+
+  pub inv-gone : (y : Back) (used : ℕ) (o : Pass) → PassInv book ws k x left w y used → 1 < left - used → ((threads : List Thread) → ToClause book ws k y threads → OnePass book ws k y threads o) → o ≡ Gone
+      → (threads : List Thread) → ToClause book ws k x threads → PassGives book ws k x left threads (Through y (used + 2))
+  inv-gone y used o I h P e ts X = let p = I .passes ts X in go (P (p .0) (p .1)) e (p .2)
+    where
+      go : {o : Pass} {us : List Thread} → OnePass book ws k y us o → o ≡ Gone → Passes left used ts us → PassGives book ws k x left ts (Through y (used + 2))
+      go {us = us} (gone {b = b} {ts = vs} G u) e Q = ends {y = y} {used = used + 2} {b = b} {ts = vs} (omega arith) (omega (arith, I .within)) G (two-more left used ts us vs h Q u)
+      go (moves Y u) e Q = let z : _≡_ {A = ℕ} 0 1 = cc in absurd (omega arith)
+      go stays e Q = let z : _≡_ {A = ℕ} 0 1 = cc in absurd (omega arith)
+
+pub next-none : {book ws : List ℕ} {k : ℕ} {x : Back} (left : ℕ) (ts : List Thread) → ToClause book ws k x ts → PassGives book ws k x left ts (Next x 0)
+next-none {x = x} left ts X = comes {y = x} {used = 0} {threads′ = ts} (omega arith) X (pass-none left ts)
+
+-- A STEP AFTER IT
+spent-both : (used n : ℕ) (y : Tally) → spentUnits n (spentUnits used y) ≡ spentUnits (used + n) y
+unfolding spentUnits
+spent-both used n y = let z : y .units + used + n ≡ y .units + (used + n) = omega arith in rw z refl
+
+after-pass : {book ws ws′ : List ℕ} {r : Regs} {left used : ℕ} {threads threads′ : List Thread} {s : Stepped} → used ≤ left → Passes left used threads threads′
+    → StepGives book ws ws′ r (left - used) threads′ s → StepGives book ws ws′ r left threads (laterBy used s)
+unfolding laterBy
+after-pass {left = left} {used = used} {threads′ = us} h P (steps-on {r′ = r′} {used = n} {threads′ = vs} a b c d e) =
+    steps-on {r′ = r′} {used = used + n} {threads′ = vs} (omega arith) (omega arith) c d
+    (λ q y ls.
+    let z : left - used - n ≡ left - (used + n) = omega arith in
+    P q y ls ∙ e q (spentUnits used y) ls ∙ ap (λ (m : ℕ). runOn q m (spentUnits n (spentUnits used y)) ls vs) z ∙ ap (λ (t : Tally). runOn q (left - (used + n)) t ls vs) (spent-both used n y))
+after-pass {left = left} {used = used} {threads′ = us} h P (steps-end {e = x} {used = n} a b e) =
+    steps-end {e = x} {used = used + n} (omega arith) b
+    (λ q y ls. P q y ls ∙ e q (spentUnits used y) ls ∙ ap (λ (t : Tally). record { ending = x; tally = t; lines = ls }) (spent-both used n y))
+
+came-to : {book ws : List ℕ} {k : ℕ} {x : Back} {left : ℕ} {threads : List Thread} {o : Passed} (y : Back) (used : ℕ) → PassGives book ws k x left threads o → o ≡ Next y used
+    → (used ≤ left) × ((threads′ : List Thread) × ToClause book ws k y threads′ × Passes left used threads threads′)
+came-to y used (comes {y = a} {used = b} {threads′ = us} h Y P) e = let v : a ≡ y = cc in let w : b ≡ used = cc in (rw (← w) h, (us, rw v at Y, rw w at P))
+came-to y used (ends a b G P) e = let z : _≡_ {A = ℕ} 0 1 = cc in absurd (omega arith)
+
+module _ (book : List ℕ) (R : Readable book) (A : Accepted book) (ws : List ℕ) (k : ℕ) (x : Back) (left : ℕ) (o : Passed)
+    (P : (threads : List Thread) → ToClause book ws k x threads → PassGives book ws k x left threads o) where
+  module _ (y : Back) (used : ℕ) (e : o ≡ Next y used) where
+    pub pass-some : (threads : List Thread) × ToClause book ws k x threads → (used ≤ left) × ((threads : List Thread) × ToClause book ws k y threads)
+    pass-some s = let p = came-to y used (P (s .0) (s .1)) e in (p .0, (p .1 .0, p .1 .1))
+
+    pub pass-budget : (r : Regs) → left ≤ used → (threads : List Thread) → ToClause book ws k x threads → StepGives book ws ws r left threads (Finished (StoppedEnding Budget) used)
+    unfolding laterBy
+    pass-budget r l threads X =
+        let p = came-to y used (P threads X) e in
+        let z : used + 0 ≡ used = omega arith in
+        let S = after-pass (p .0) (p .1 .2) (no-budget book R A ws k y (p .1 .0) (p .1 .1) r (left - used) (omega arith)) in
+        rw z at S
+
+    pub pass-next : (r : Regs) (ws′ : List ℕ) (s t : Stepped) → ((threads : List Thread) → ToClause book ws k y threads → StepGives book ws ws′ r (left - used) threads s) → t ≡ laterBy used s
+        → (threads : List Thread) → ToClause book ws k x threads → StepGives book ws ws′ r left threads t
+    pass-next r ws′ s t T d threads X = let p = came-to y used (P threads X) e in rw d (after-pass (p .0) (p .1 .2) (T (p .1 .0) (p .1 .1)))
+
+  pub pass-through : (y : Back) (used : ℕ) → o ≡ Through y used → (r g : Regs) → r .solving ≡ false → g ≡ regsGone y k → (threads : List Thread) → ToClause book ws k x threads → StepGives book ws ws r left threads (Onward g used)
+  pass-through y used e r g s d threads X = rw d (go (P threads X) e)
+    where
+      go : {o : Passed} → PassGives book ws k x left threads o → o ≡ Through y used → StepGives book ws ws r left threads (Onward (regsGone y k) used)
+      go (ends {y = a} {used = b} {ts = ts} h l G Q) e =
+          let v : a ≡ y = cc in let w : b ≡ used = cc in
+          let G′ = rw v at G in
+          steps-on {r′ = regsGone y k} {used = used} {threads′ = ts} (omega (arith, l, w)) (rw s (omega (arith, h, w))) (leaves-none ws) (going-back refl (G′ .sound) (G′ .waiting)) (rw w at Q)
+      go (comes h Y Q) e = let z : _≡_ {A = ℕ} 0 1 = cc in absurd (omega arith)
+
+-- the units of a step are within what is left
+pub units-most : {book ws ws′ : List ℕ} {r : Regs} {left : ℕ} {threads : List Thread} {s : Stepped} → StepGives book ws ws′ r left threads s → unitsOf s ≤ left
+units-most (steps-on a b c d e) = a
+units-most (steps-end a b c) = a

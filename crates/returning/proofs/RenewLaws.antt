@@ -1,7 +1,7 @@
 -- The alternative for the candidates after the one that is tried.
 use mathlib.Core.Path.{_≡_, refl, _∙_, ap}
-use mathlib.Core.Logic.{inl, inr}
-use mathlib.Core.List.{List, [], _∷_, _++_}
+use mathlib.Core.Logic.{inr}
+use mathlib.Core.List.{List, [], _∷_}
 use Prim.Native.Nat.{ℕ, suc, _+_, _-_, _*_, _/_, _%_, _≤_, _<_}
 use native.Mathlib.Omega.{arith}
 use lib.ListN.{length}
@@ -53,9 +53,6 @@ module _ (book : List ℕ) (ws : List ℕ) (k : ℕ) (x : Back) (threads : List 
 
   pub trail-room : x .trail ≤ 2048
   trail-room = fits-most (x .made) (x .trail) ws (S .slots .room) (S .fits)
-
-  abbrev threads-left : List Force → List Thread
-  threads-left cs = tryAll (X .b) (atomOf book (X .a) (X .e) (X .program)) cs ++ X .ts
 
   pub kept-below : k < 512
   kept-below = omega (arith, X .again .few, X .with .most)

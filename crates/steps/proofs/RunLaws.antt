@@ -1,18 +1,18 @@
 -- Parts of a run.
 use mathlib.Core.Path.{_≡_, refl, sym, _∙_, ap}
 use mathlib.Core.List.{List, [], _∷_, _++_}
-use Prim.Native.Nat.{ℕ, zero, suc, _+_, _-_, _≤_, _<_}
+use Prim.Native.Nat.{ℕ, suc, _+_, _-_, _≤_, _<_}
 use native.Mathlib.Omega.{arith}
 use Rattle.machine.specs.declared.Limit.{Limit}
 use Rattle.machine.specs.declared.Limit.the-variants.{Budget}
 use Rattle.machine.specs.declared.Ending.the-variants.{Stopped as StoppedEnding}
 use Rattle.machine.specs.declared.Tally.{Tally}
-use Rattle.machine.specs.Machine.{Thread, Moved, on, stop, failed, only, advance}
+use Rattle.machine.specs.Machine.{Thread, on, stop, advance}
 use Rattle.machine.specs.Answers.{Line}
-use Rattle.machine.specs.Run.{Request, State, Outgoing, next, ended, counted, goOn, after, step, Result, run}
+use Rattle.machine.specs.Run.{Request, State, Outgoing, next, ended, counted, goOn, after, step, run}
 use Rattle.unifier.specs.declared.How.{How}
 use Rattle.unifier.specs.declared.How.the-variants.{Done, Failed, Stopped}
-use Rattle.unifier.specs.Moves.{Moves, Moves.still, Moves.more, Went, Went.done, Went.fails, Went.full, Went.spent}
+use Rattle.unifier.specs.Moves.{Moves, Went, Went.done, Went.fails, Went.full, Went.spent}
 use Rattle.unifier.proofs.MoveLaws.{run-moves, unitsMore}
 use Rattle.steps.specs.Search.{runOut, runOn, spentUnits}
 
@@ -112,7 +112,3 @@ module _ (left : ℕ) (t : Thread) (threads : List Thread) (h : 0 < left) where
   unit-gives us e q y ls =
       let z : left ≡ suc (left - 1) = omega arith in
       ap (λ (n : ℕ). runOn q n y ls (t ∷ threads)) z ∙ unit-on q (left - 1) t us threads y ls e ∙ ap (λ (x : Tally). runOn q (left - 1) x ls (us ++ threads)) (one-spent y)
-
-pub one-unit : (left : ℕ) (t u : Thread) (threads : List Thread) → 0 < left → advance t ≡ only u
-    → (q : Request) (y : Tally) (ls : List Line) → runOn q left y ls (t ∷ threads) ≡ runOn q (left - 1) (spentUnits 1 y) ls (u ∷ threads)
-one-unit left t u threads h e = unit-gives left t threads h (u ∷ []) e

@@ -44,7 +44,7 @@ first-words ws out t r e = rw e refl
 
 other-words : (ws out : List ℕ) (t r : ℕ) → t ≢ 1 → declined ws out t r .workspace ≡ replicate (length ws) 0
 unfolding declined
-other-words ws out t r n = rw (ne-eqb t 1 n) refl
+other-words ws out t r n = rw (declined, ne-eqb t 1 n) refl
 
 module _ (book : List ℕ) (budget wanted : ℕ) (ws out : List ℕ) (reply : Reply) (ws′ out′ : List ℕ) (h : Allowed book budget wanted ws out reply ws′ out′) where
   -- the result is the definition's
@@ -129,5 +129,8 @@ pub solve-keeps : (κs : _) (a : _) (r : _) (s : _) → solve-reads.Post κs a r
     → Promises (a .0 .now) (a .1 .0) (a .1 .1 .0) (a .1 .1 .1 .0 .now) (a .1 .1 .1 .1 .0 .now) r (s .1 .1 .1 .0 .now) (s .1 .1 .1 .1 .0 .now)
 solve-keeps κs a r s p = promises-kept _ _ _ _ _ _ _ _ (solve-allows κs a r s p)
 
-pub c-allows : (κs : _) (a : _) (r : _) (s : _) → c-reads.Post κs a r s → ?
-c-allows κs a r s p = ?
+-- the C function: its six numbers are those of an allowed reply
+pub c-allows : (κs : _) (a : _) (r : _) (s : _) → c-reads.Post κs a r s
+    → (reply : Reply) × (s .1 .1 .1 .1 .1 .0 .now ≡ replySix reply)
+    × Allowed (a .0 .now) (a .1 .0) (a .1 .1 .0) (a .1 .1 .1 .0 .now) (a .1 .1 .1 .1 .0 .now) reply (s .1 .1 .1 .0 .now) (s .1 .1 .1 .1 .0 .now)
+c-allows κs a r s p = (_, p .0, record { replied = refl; words = p .1 .0; bytes = p .1 .1 })

@@ -26,7 +26,6 @@ abbrev pub verdictOn : List ℕ → ℕ → List ℕ → List ℕ → Verdict
 verdictOn book wanted ws out = verdict (length ws) (length out) wanted book
 
 module _ (book : List ℕ) (budget wanted : ℕ) (ws out : List ℕ) (reply : Reply) (ws′ out′ : List ℕ) where
-
   -- DEMAND 1: one result, and a refusal exactly when the tests say so
 
   -- "any two results allowed by it agree": reply, every word, every byte

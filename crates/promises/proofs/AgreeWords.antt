@@ -89,4 +89,4 @@ index-word book first n ws v w p q k h = go (decLt k 4096) (decLt k 5120) (decLt
 
 pub index-make-index : (κs : _) (a : _) (r r′ : _) (s s′ : _) → index-make-index-reads.Pre κs a → index-make-index-reads.Post κs a r s → index-make-index-reads.Post κs a r′ s′
     → s .1 .0 .now ≡ s′ .1 .0 .now
-index-make-index κs a r r′ s s′ h p q = ext-getD 0 _ _ (p .below .size ∙ sym (q .below .size)) (λ k i. index-word _ _ _ _ _ _ p q k (subst (λ (n : ℕ). k < n) (p .below .size ∙ h .1 .1 .1 .1) i))
+index-make-index κs a r r′ s s′ h p q = ext-getD 0 _ _ (p .below .size ∙ sym (q .below .size)) (λ k i. index-word _ _ _ _ _ _ p q k (subst (λ (n : ℕ). k < n) (p .below .size ∙ h .1 .1 .2) i))

@@ -1,0 +1,42 @@
+-- Any two results that a contract allows agree. The tests and the reads of the book that they make.
+use mathlib.Core.Path.{_≡_, sym, _∙_}
+use Rattle.fields.proofs.kind_fits.Reads as fields-kind-fits-reads
+use Rattle.fields.proofs.fields_fit.Reads as fields-fields-fit-reads
+use Rattle.pointing.proofs.clear.Reads as pointing-clear-reads
+use Rattle.pointing.proofs.tree_test.Reads as pointing-tree-test-reads
+use Rattle.records.proofs.wide.Reads as records-wide-reads
+use Rattle.records.proofs.record_at.Reads as records-record-at-reads
+use Rattle.records.proofs.field.Reads as records-field-reads
+use Rattle.refusals.proofs.verdict.Reads as refusals-verdict-reads
+use Rattle.scope.proofs.scope_test.Reads as scope-scope-test-reads
+use Rattle.targets.proofs.targets_fit.Reads as targets-targets-fit-reads
+
+pub fields-kind-fits : (κs : _) (a : _) (r r′ : _) (s s′ : _) → fields-kind-fits-reads.Post κs a r s → fields-kind-fits-reads.Post κs a r′ s′ → r ≡ r′
+fields-kind-fits κs a r r′ s s′ p q = p ∙ sym q
+
+pub fields-fields-fit : (κs : _) (a : _) (r r′ : _) (s s′ : _) → fields-fields-fit-reads.Post κs a r s → fields-fields-fit-reads.Post κs a r′ s′ → r ≡ r′
+fields-fields-fit κs a r r′ s s′ p q = p ∙ sym q
+
+pub pointing-clear : (κs : _) (a : _) (r r′ : _) (s s′ : _) → pointing-clear-reads.Post κs a r s → pointing-clear-reads.Post κs a r′ s′ → s .0 .now ≡ s′ .0 .now
+pointing-clear κs a r r′ s s′ p q = p ∙ sym q
+
+pub pointing-tree-test : (κs : _) (a : _) (r r′ : _) (s s′ : _) → pointing-tree-test-reads.Post κs a r s → pointing-tree-test-reads.Post κs a r′ s′ → (r ≡ r′) × (s .1 .0 .now ≡ s′ .1 .0 .now)
+pointing-tree-test κs a r r′ s s′ p q = (p .0 ∙ sym (q .0), p .1 ∙ sym (q .1))
+
+pub records-wide : (κs : _) (a : _) (r r′ : _) (s s′ : _) → records-wide-reads.Post κs a r s → records-wide-reads.Post κs a r′ s′ → r ≡ r′
+records-wide κs a r r′ s s′ p q = p ∙ sym q
+
+pub records-record-at : (κs : _) (a : _) (r r′ : _) (s s′ : _) → records-record-at-reads.Post κs a r s → records-record-at-reads.Post κs a r′ s′ → r ≡ r′
+records-record-at κs a r r′ s s′ p q = p ∙ sym q
+
+pub records-field : (κs : _) (a : _) (r r′ : _) (s s′ : _) → records-field-reads.Post κs a r s → records-field-reads.Post κs a r′ s′ → r ≡ r′
+records-field κs a r r′ s s′ p q = p ∙ sym q
+
+pub refusals-verdict : (κs : _) (a : _) (r r′ : _) (s s′ : _) → refusals-verdict-reads.Post κs a r s → refusals-verdict-reads.Post κs a r′ s′ → (r ≡ r′) × (s .1 .0 .now ≡ s′ .1 .0 .now)
+refusals-verdict κs a r r′ s s′ p q = (p .0 ∙ sym (q .0), p .1 ∙ sym (q .1))
+
+pub scope-scope-test : (κs : _) (a : _) (r r′ : _) (s s′ : _) → scope-scope-test-reads.Post κs a r s → scope-scope-test-reads.Post κs a r′ s′ → r ≡ r′
+scope-scope-test κs a r r′ s s′ p q = p ∙ sym q
+
+pub targets-targets-fit : (κs : _) (a : _) (r r′ : _) (s s′ : _) → targets-targets-fit-reads.Post κs a r s → targets-targets-fit-reads.Post κs a r′ s′ → r ≡ r′
+targets-targets-fit κs a r r′ s s′ p q = p ∙ sym q

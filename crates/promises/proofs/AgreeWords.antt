@@ -1,0 +1,92 @@
+-- Any two results that a contract allows agree. The reads, the stacks and the bindings of a branch: every word of the workspace.
+use mathlib.Core.Path.{_≡_, sym, _∙_, subst}
+use mathlib.Core.List.{List}
+use Prim.Native.Nat.{ℕ, _+_, _-_, _≤_, _<_}
+use native.Mathlib.Omega.{arith}
+use native.Mathlib.Decide.{decLt}
+use lib.Seq.{ext-getD}
+use lib.ListN.{length, getD}
+use Rattle.words.specs.Words.{termW}
+use Rattle.index.specs.Index.{IndexedFrom}
+use Rattle.branch.proofs.open_again.Reads as branch-open-again-reads
+use Rattle.branch.proofs.open_slots.Reads as branch-open-slots-reads
+use Rattle.branch.proofs.put_ties.Reads as branch-put-ties-reads
+use Rattle.branch.proofs.kept.Reads as branch-kept-reads
+use Rattle.branch.proofs.go_back.Reads as branch-go-back-reads
+use Rattle.branch.proofs.keep.Reads as branch-keep-reads
+use Rattle.branch.proofs.put_cell.Reads as branch-put-cell-reads
+use Rattle.index.proofs.seek_run.Reads as index-seek-run-reads
+use Rattle.index.proofs.seek_indexed.Reads as index-seek-indexed-reads
+use Rattle.words.proofs.index.Reads as words-index-reads
+use Rattle.words.proofs.field.Reads as words-field-reads
+use Rattle.words.proofs.word_for.Reads as words-word-for-reads
+use Rattle.words.proofs.push_terms.Reads as words-push-terms-reads
+use Rattle.words.proofs.push_pairs.Reads as words-push-pairs-reads
+use Rattle.words.proofs.bind.Reads as words-bind-reads
+use Rattle.words.proofs.read_through.Reads as words-read-through-reads
+use Rattle.index.proofs.make_index.Reads as index-make-index-reads
+
+pub branch-open-again : (κs : _) (a : _) (r r′ : _) (s s′ : _) → branch-open-again-reads.Post κs a r s → branch-open-again-reads.Post κs a r′ s′ → s .0 .now ≡ s′ .0 .now
+branch-open-again κs a r r′ s s′ p q = p ∙ sym q
+
+pub branch-open-slots : (κs : _) (a : _) (r r′ : _) (s s′ : _) → branch-open-slots-reads.Post κs a r s → branch-open-slots-reads.Post κs a r′ s′ → s .0 .now ≡ s′ .0 .now
+branch-open-slots κs a r r′ s s′ p q = p ∙ sym q
+
+pub branch-put-ties : (κs : _) (a : _) (r r′ : _) (s s′ : _) → branch-put-ties-reads.Post κs a r s → branch-put-ties-reads.Post κs a r′ s′ → s .1 .0 .now ≡ s′ .1 .0 .now
+branch-put-ties κs a r r′ s s′ p q = p ∙ sym q
+
+pub branch-kept : (κs : _) (a : _) (r r′ : _) (s s′ : _) → branch-kept-reads.Post κs a r s → branch-kept-reads.Post κs a r′ s′ → r ≡ r′
+branch-kept κs a r r′ s s′ p q = p ∙ sym q
+
+pub branch-go-back : (κs : _) (a : _) (r r′ : _) (s s′ : _) → branch-go-back-reads.Post κs a r s → branch-go-back-reads.Post κs a r′ s′ → (r ≡ r′) × (s .0 .now ≡ s′ .0 .now)
+branch-go-back κs a r r′ s s′ p q = (p .0 ∙ sym (q .0), p .1 ∙ sym (q .1))
+
+pub branch-keep : (κs : _) (a : _) (r r′ : _) (s s′ : _) → branch-keep-reads.Post κs a r s → branch-keep-reads.Post κs a r′ s′ → s .0 .now ≡ s′ .0 .now
+branch-keep κs a r r′ s s′ p q = p ∙ sym q
+
+pub branch-put-cell : (κs : _) (a : _) (r r′ : _) (s s′ : _) → branch-put-cell-reads.Post κs a r s → branch-put-cell-reads.Post κs a r′ s′ → s .0 .now ≡ s′ .0 .now
+branch-put-cell κs a r r′ s s′ p q = p ∙ sym q
+
+pub index-seek-run : (κs : _) (a : _) (r r′ : _) (s s′ : _) → index-seek-run-reads.Post κs a r s → index-seek-run-reads.Post κs a r′ s′ → r ≡ r′
+index-seek-run κs a r r′ s s′ p q = p ∙ sym q
+
+pub index-seek-indexed : (κs : _) (a : _) (r r′ : _) (s s′ : _) → index-seek-indexed-reads.Post κs a r s → index-seek-indexed-reads.Post κs a r′ s′ → r ≡ r′
+index-seek-indexed κs a r r′ s s′ p q = p ∙ sym q
+
+pub words-index : (κs : _) (a : _) (r r′ : _) (s s′ : _) → words-index-reads.Post κs a r s → words-index-reads.Post κs a r′ s′ → r ≡ r′
+words-index κs a r r′ s s′ p q = p ∙ sym q
+
+pub words-field : (κs : _) (a : _) (r r′ : _) (s s′ : _) → words-field-reads.Post κs a r s → words-field-reads.Post κs a r′ s′ → r ≡ r′
+words-field κs a r r′ s s′ p q = p .0 ∙ sym (q .0)
+
+pub words-word-for : (κs : _) (a : _) (r r′ : _) (s s′ : _) → words-word-for-reads.Post κs a r s → words-word-for-reads.Post κs a r′ s′ → r ≡ r′
+words-word-for κs a r r′ s s′ p q = p ∙ sym q
+
+pub words-push-terms : (κs : _) (a : _) (r r′ : _) (s s′ : _) → words-push-terms-reads.Post κs a r s → words-push-terms-reads.Post κs a r′ s′ → s .1 .1 .1 .1 .1 .0 .now ≡ s′ .1 .1 .1 .1 .1 .0 .now
+words-push-terms κs a r r′ s s′ p q = p ∙ sym q
+
+pub words-push-pairs : (κs : _) (a : _) (r r′ : _) (s s′ : _) → words-push-pairs-reads.Post κs a r s → words-push-pairs-reads.Post κs a r′ s′ → s .1 .1 .1 .1 .1 .1 .1 .0 .now ≡ s′ .1 .1 .1 .1 .1 .1 .1 .0 .now
+words-push-pairs κs a r r′ s s′ p q = p ∙ sym q
+
+pub words-bind : (κs : _) (a : _) (r r′ : _) (s s′ : _) → words-bind-reads.Post κs a r s → words-bind-reads.Post κs a r′ s′ → s .1 .1 .1 .0 .now ≡ s′ .1 .1 .1 .0 .now
+words-bind κs a r r′ s s′ p q = p ∙ sym q
+
+-- words::read_through: the same term. Two words can stand for one term, where the book says it twice; which of them is given is the exception.
+pub words-read-through : (κs : _) (a : _) (r r′ : _) (s s′ : _) → words-read-through-reads.Post κs a r s → words-read-through-reads.Post κs a r′ s′
+    → termW (a .0 .now) r ≡ termW (a .0 .now) r′
+words-read-through κs a r r′ s s′ p q = sym (p .walked) ∙ q .walked
+
+-- index::make_index: every word is the index's or as it was
+index-word : (book : List ℕ) (first n : ℕ) (ws v w : List ℕ) → IndexedFrom book first n 0 ws v → IndexedFrom book first n 0 ws w → (k : ℕ) → k < 16384 → getD v k 0 ≡ getD w k 0
+index-word book first n ws v w p q k h = go (decLt k 4096) (decLt k 5120) (decLt k (5120 + n))
+  where
+    go : Dec (k < 4096) → Dec (k < 5120) → Dec (k < 5120 + n) → getD v k 0 ≡ getD w k 0
+    go (yes a) b c = p .below .same k (omega arith) a ∙ sym (q .below .same k (omega arith) a)
+    go (no a) (yes b) c = subst (λ (j : ℕ). getD v j 0 ≡ getD w j 0) (omega arith) (p .firsts (k - 4096) (omega arith) ∙ sym (q .firsts (k - 4096) (omega arith)))
+    go (no a) (no b) (yes c) =
+        subst (λ (j : ℕ). getD v j 0 ≡ getD w j 0) (omega arith) (p .nexts (k - 5120) (omega arith) (omega arith) ∙ sym (q .nexts (k - 5120) (omega arith) (omega arith)))
+    go (no a) (no b) (no c) = p .above .same k (omega arith) h ∙ sym (q .above .same k (omega arith) h)
+
+pub index-make-index : (κs : _) (a : _) (r r′ : _) (s s′ : _) → index-make-index-reads.Pre κs a → index-make-index-reads.Post κs a r s → index-make-index-reads.Post κs a r′ s′
+    → s .1 .0 .now ≡ s′ .1 .0 .now
+index-make-index κs a r r′ s s′ h p q = ext-getD 0 _ _ (p .below .size ∙ sym (q .below .size)) (λ k i. index-word _ _ _ _ _ _ p q k (subst (λ (n : ℕ). k < n) (p .below .size ∙ h .1 .1 .2) i))

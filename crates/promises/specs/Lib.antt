@@ -1,0 +1,2 @@
+-- The promises, on one page.
+pub mod Promises

@@ -1,25 +1,25 @@
 -- Runs of links as a list of terms.
 use mathlib.Core.Path.{_≡_, refl, sym, _∙_, ap}
-use mathlib.Core.Logic.{_⊎_, inl, inr}
+use mathlib.Core.Logic.{inl, inr}
 use mathlib.Core.List.{List, [], _∷_}
 use Prim.Native.Nat.{ℕ, zero, suc, _+_, _-_, _*_, _/_, _%_, _≤_, _<_}
 use native.Mathlib.Omega.{arith}
 use native.Mathlib.Decide.{decLt}
-use native.Mathlib.Nat.{add-zero, add-suc}
+use native.Mathlib.Nat.{add-zero}
 use lib.ListN.{length, getD, set}
 use lib.Seq.{getD-set-same, getD-set-other}
-use Rattle.book.specs.Records.{field, records}
+use Rattle.book.specs.Records.{field}
 use Rattle.book.specs.Decode.{textsFrom, textOf, argumentsOf}
-use Rattle.machine.specs.Term.{Term, Terms, nil, cons, count, instances, fills, spread}
-use Rattle.words.specs.Words.{recOf, baseOf, termOf}
-use Rattle.words.specs.Readable.{Readable, TextRec, TermRec, HasArguments}
-use Rattle.words.specs.Good.{Below, BelowAll, GoodTerm}
+use Rattle.machine.specs.Term.{Term, count, instances, fills, spread}
+use Rattle.words.specs.Words.{baseOf, termOf}
+use Rattle.words.specs.Readable.{Readable, TextRec, HasArguments}
+use Rattle.words.specs.Good.{Below}
 use Rattle.words.specs.Frame.{Keeps}
 use Rattle.words.proofs.ReadLaws.{in-book}
 use Rattle.words.proofs.TextLaws.{term-app}
-use Rattle.words.proofs.StackLaws.{RunOf, run-first, spread-length, run-count, keeps-set}
+use Rattle.words.proofs.StackLaws.{run-first, spread-length, run-count, keeps-set}
 use Rattle.unifier.specs.declared.ToLook.{ToLook}
-use Rattle.unifier.specs.declared.LookStep.the-variants.{On, Found, Full}
+use Rattle.unifier.specs.declared.LookStep.the-variants.{On, Full}
 use Rattle.unifier.specs.Runs.{runWord, firstOf, countOf, runTerms, waitingOf, listOf, pastOf, GoodRun, GoodWait, Listed, Past, TermAt, LookedInto, LookedInto.into, LookedInto.into-full}
 
 -- THE WORD OF A RUN

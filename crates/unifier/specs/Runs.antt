@@ -1,6 +1,6 @@
 -- The list of terms to look at, as runs of links: the run in hand, and those that wait in the workspace, one word each.
 use mathlib.Core.Path.{_≡_}
-use mathlib.Core.List.{List, [], _∷_}
+use mathlib.Core.List.{List, []}
 use Prim.Native.Nat.{ℕ, zero, suc, _+_, _-_, _*_, _/_, _%_, _≤_, _<_}
 use lib.ListN.{length, getD}
 use Rattle.book.specs.Records.{field, records}
@@ -12,7 +12,7 @@ use Rattle.words.specs.Good.{Below}
 use Rattle.words.proofs.StackLaws.{RunOf}
 use Rattle.unifier.specs.declared.ToLook.{ToLook}
 use Rattle.unifier.specs.declared.LookStep.{LookStep}
-use Rattle.unifier.specs.declared.LookStep.the-variants.{On, Found, Full}
+use Rattle.unifier.specs.declared.LookStep.the-variants.{On, Full}
 
 -- the word of a run of m links from `first`, with its variables from number b on, and its numbers
 unfoldable pub runWord : ℕ → ℕ → ℕ → ℕ

@@ -1,11 +1,11 @@
 -- Any two results that a contract allows agree. The reads, the stacks and the bindings of a branch: every word of the workspace.
 use mathlib.Core.Path.{_≡_, sym, _∙_, subst}
 use mathlib.Core.List.{List}
-use Prim.Native.Nat.{ℕ, _+_, _-_, _≤_, _<_}
+use Prim.Native.Nat.{ℕ, _+_, _-_, _<_}
 use native.Mathlib.Omega.{arith}
 use native.Mathlib.Decide.{decLt}
 use lib.Seq.{ext-getD}
-use lib.ListN.{length, getD}
+use lib.ListN.{getD}
 use Rattle.words.specs.Words.{termW}
 use Rattle.index.specs.Index.{IndexedFrom}
 use Rattle.branch.proofs.open_again.Reads as branch-open-again-reads

@@ -2,26 +2,22 @@
 use mathlib.Core.Path.{_≡_, refl, sym, _∙_, ap, subst}
 use mathlib.Core.Logic.{_≢_}
 use mathlib.Core.List.{List, [], _∷_}
-use mathlib.Core.Bool.{true, false}
-use Prim.Native.Nat.{ℕ, _≤_}
+use Prim.Native.Nat.{ℕ}
 use native.Mathlib.Omega.{arith}
-use lib.Dec.{eqb}
 use lib.ListN.{length, replicate}
 use borrow.Author.Tests.{ne-eqb}
 use Rattle.book.specs.declared.Verdict.{Verdict}
 use Rattle.book.specs.declared.Verdict.the-variants.{Fine, Refused}
 use Rattle.book.specs.Refusals.{verdictNumbers}
-use Rattle.machine.specs.declared.Outcome.the-variants.{Declined, Ended}
 use Rattle.machine.specs.declared.Reply.{Reply}
-use Rattle.machine.specs.Run.{endingNumber}
-use Rattle.machine.specs.Call.{Called, call, noCounts, runOf, accepted, declined, filledBuffer, replyNumbers}
+use Rattle.machine.specs.Call.{Called, call, runOf, accepted, declined, replyNumbers}
 use Rattle.machine.proofs.CallLaws.{call-taken, call-refused, units-within}
 use Rattle.derivation.specs.Demand3.{AnswersRight, SearchComplete}
 use Rattle.derivation.proofs.Demand3Holds.{answers-right, search-complete}
 use Rattle.capi.specs.Six.{replySix}
 use Rattle.engine.proofs.solve.Reads as solve-reads
 use Rattle.capi.proofs.whittermay_solve.Reads as c-reads
-use Rattle.promises.specs.Promises.{Allowed, verdictOn, OneResult, RefusedExactly, Leaves, AsTheMachine, Demand1, Demand2, Demand3, Promises}
+use Rattle.promises.specs.Promises.{Allowed, verdictOn, OneResult, Leaves, AsTheMachine, Demand1, Demand2, Demand3, Promises}
 
 absurd-numbers {ℓ} : {X : Type ℓ} → _≡_ {A = ℕ} 0 1 → X
 absurd-numbers z = absurd (omega arith)

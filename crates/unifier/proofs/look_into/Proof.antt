@@ -26,12 +26,12 @@ returns : tie.Need-returns
 returns c = let p = c .before .before .before .before .before .before .pre in let q = p .1 .1 in (keeps-refl _ _ _, into-none _ _ (p .1 .0 .room) _ _ (q .0) (q .1 .0) (p .0) _ _ (q .1 .1) _ (c .before .before .before .field .ensures .0) (c .before .before .if1 .taken) _ (c .look-past .ensures))
 
 -- src/lib.rt:93:26
-sub-n : tie.Need-sub-n
-sub-n c = search needs
+sub-rest : tie.Need-sub-rest
+sub-rest c = search needs
 
 -- src/lib.rt:93:13
-add-n : tie.Need-add-n
-add-n c = search needs
+add-rest : tie.Need-add-rest
+add-rest c = search needs
 
 -- src/lib.rt:94:14
 add-if2 : tie.Need-add-if2
@@ -109,8 +109,8 @@ look-into-spec =
     look-past-requires
     same-length
     returns
-    sub-n
-    add-n
+    sub-rest
+    add-rest
     add-if2
     returns-2
     field-requires-2

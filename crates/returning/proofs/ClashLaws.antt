@@ -11,7 +11,7 @@ use Rattle.book.specs.Tree.{headArguments, variablesOf}
 use Rattle.book.specs.Scoped.{ScopedTexts}
 use Rattle.book.specs.Decode.{clauseOf, argumentsOf, textsFrom, textOf}
 use Rattle.book.proofs.Accepted.{Accepted}
-use Rattle.book.proofs.Unfolding.{clause-of, goal-atom}
+use Rattle.book.proofs.Unfolding.{clause-of, goal-atom, count-arguments}
 use Rattle.machine.specs.declared.Tally.{Tally}
 use Rattle.machine.specs.Term.{Term, Terms, var, app, cons, count, instances, fill}
 use Rattle.machine.specs.Store.{Entry, walk}
@@ -19,7 +19,6 @@ use Rattle.machine.specs.Machine.{Force, Thread, entering, candidates, tryAll, 
 use Rattle.machine.specs.Answers.{Line}
 use Rattle.machine.specs.Run.{Request}
 use Rattle.machine.proofs.TermLaws.{count-fills}
-use Rattle.machine.proofs.ClosureLaws.{count-arguments}
 use Rattle.words.specs.Words.{termOf, termW, wordFor, symW, argsW, recOf, baseOf, storeOf}
 use Rattle.words.specs.Readable.{Readable, TextRec, TermRec, HasArguments}
 use Rattle.words.specs.Good.{Below, Good, GoodTerm, Slots, ReadThrough}

@@ -5,6 +5,7 @@ use Rattle.fields.proofs.fields_fit.Reads as fields-fields-fit-reads
 use Rattle.pointing.proofs.clear.Reads as pointing-clear-reads
 use Rattle.pointing.proofs.tree_test.Reads as pointing-tree-test-reads
 use Rattle.records.proofs.wide.Reads as records-wide-reads
+use Rattle.records.proofs.read_record.Reads as records-read-record-reads
 use Rattle.records.proofs.record_at.Reads as records-record-at-reads
 use Rattle.records.proofs.field.Reads as records-field-reads
 use Rattle.refusals.proofs.verdict.Reads as refusals-verdict-reads
@@ -25,6 +26,9 @@ pointing-tree-test κs a r r′ s s′ p q = (p .0 ∙ sym (q .0), p .1 ∙ sym 
 
 pub records-wide : (κs : _) (a : _) (r r′ : _) (s s′ : _) → records-wide-reads.Post κs a r s → records-wide-reads.Post κs a r′ s′ → r ≡ r′
 records-wide κs a r r′ s s′ p q = p ∙ sym q
+
+pub records-read-record : (κs : _) (a : _) (r r′ : _) (s s′ : _) → records-read-record-reads.Post κs a r s → records-read-record-reads.Post κs a r′ s′ → r ≡ r′
+records-read-record κs a r r′ s s′ p q = p ∙ sym q
 
 pub records-record-at : (κs : _) (a : _) (r r′ : _) (s s′ : _) → records-record-at-reads.Post κs a r s → records-record-at-reads.Post κs a r′ s′ → r ≡ r′
 records-record-at κs a r r′ s s′ p q = p ∙ sym q

@@ -5,9 +5,9 @@ use mathlib.Core.Bool.{Bool, true, false, _&&_}
 use mathlib.Core.List.{List}
 use Prim.Native.Nat.{ℕ, zero, suc, _+_, _-_, _*_, _%_, _≤_, _<_}
 use native.Mathlib.Omega.{arith}
-use native.Mathlib.Decide.{decLt}
+use native.Mathlib.Decide.{decLt, ℕ-discrete}
 use native.Mathlib.Nat.{add-zero}
-use borrow.Author.Tests.{eq-eqb, ne-eqb}
+use borrow.Author.Tests.{eq-eqb, ne-eqb, eqb-true}
 use lib.Dec.{eqb}
 use lib.ListN.{length, getD, set, length-set}
 use lib.Seq.{getD-set-same, getD-set-other}
@@ -15,7 +15,7 @@ use Rattle.book.specs.Records.{field}
 use Rattle.words.specs.Frame.{Keeps}
 use Rattle.words.proofs.StackLaws.{keeps-refl, keeps-trans, keeps-narrow, keeps-set}
 use Rattle.index.specs.Runs.{headMatches, nextMatch}
-use Rattle.index.specs.Index.{bucketOf, nextIn, Indexed, EmptyFrom, IndexedFrom, Skips}
+use Rattle.index.specs.Index.{bucketOf, nextIn, Indexed, EmptyFrom, IndexedFrom, InBucket}
 
 -- WHAT nextIn FINDS
 module _ (book : List ℕ) (first b : ℕ) where
@@ -28,6 +28,16 @@ module _ (book : List ℕ) (first b : ℕ) where
           → (k ≤ elim t [ true ↦ k | false ↦ nextIn book first b (suc k) j ]) × (elim t [ true ↦ k | false ↦ nextIn book first b (suc k) j ] ≤ k + suc j)
       go true ih = (omega arith, omega arith)
       go false ih = (omega (arith, ih .0), omega (arith, ih .1))
+
+  pub in-found : (k j : ℕ) → nextIn book first b k j < k + j → bucketOf book first (nextIn book first b k j) ≡ b
+  unfolding nextIn
+  in-found k zero h = absurd (omega arith)
+  in-found k (suc j) h = go (eqb b (bucketOf book first k)) refl (in-found (suc k) j) h
+    where
+      go : (t : Bool) → eqb b (bucketOf book first k) ≡ t → (nextIn book first b (suc k) j < suc k + j → bucketOf book first (nextIn book first b (suc k) j) ≡ b)
+          → elim t [ true ↦ k | false ↦ nextIn book first b (suc k) j ] < k + suc j → bucketOf book first (elim t [ true ↦ k | false ↦ nextIn book first b (suc k) j ]) ≡ b
+      go true e ih l = sym (eqb-true b (bucketOf book first k) e)
+      go false e ih l = ih (omega arith)
 
   -- one more clause in front, in another bucket or in this one
   pub in-other : (k n : ℕ) → k < n → (b ≡ bucketOf book first k → ⊥) → nextIn book first b (k + 1) (n - (k + 1)) ≡ nextIn book first b k (n - k)
@@ -67,17 +77,12 @@ bucket-skips book first f m k (suc j) = go (eqb (f % 1024) (bucketOf book first 
         rw (nextMatch, d) (ih ∙ ap (λ (n : ℕ). nextMatch book f m first N (n - N)) (sym z))
 
 -- so the word of the index may be taken for k
-pub skip-to : (book : List ℕ) (first n b k r : ℕ) → k ≤ n → r ≡ nextIn book first b k (n - k) → Skips book first n b k r
-skip-to book first n b k r h e =
-    let x = in-bounds book first b k (n - k) in
-    record {
-      from = rw e (x .0);
-      within = rw e (omega (arith, x .1));
-      skips = λ f m p. rw (e, ← p) (bucket-skips book first f m k (n - k) ∙ (let z : k + (n - k) ≡ n = omega arith in rw z refl));
-    }
+module _ (book : List ℕ) (first n k r : ℕ) (h : k ≤ n) where
+  pub skip-within : (b : ℕ) → r ≡ nextIn book first b k (n - k) → InBucket book first n b r
+  skip-within b e = let x = in-bounds book first b k (n - k) in record { within = rw e (omega (arith, x .1)); bucket = λ l. rw e (in-found book first b k (n - k) (omega (arith, e, l))) }
 
-pub skip-none : (book : List ℕ) (first n b k : ℕ) → k ≤ n → Skips book first n b k k
-skip-none book first n b k h = record { from = omega arith; within = h; skips = λ f m p. refl }
+  pub skip-same : (f m : ℕ) → r ≡ nextIn book first (f % 1024) k (n - k) → nextMatch book f m first r (n - r) ≡ nextMatch book f m first k (n - k)
+  skip-same f m e = rw e (sym (bucket-skips book first f m k (n - k) ∙ (let z : k + (n - k) ≡ n = omega arith in rw z refl)))
 
 -- EMPTYING
 pub empty-none : (n : ℕ) (ws : List ℕ) → EmptyFrom n 0 ws ws
@@ -173,10 +178,37 @@ indexed-same book first n m K I = record
     { firsts = λ b h. K .same (4096 + b) (omega arith) (omega arith) ∙ I .firsts b h; nexts = λ i h. K .same (5120 + i) (omega arith) (omega arith) ∙ I .nexts i h }
 
 -- THE CODE'S STEPS ALONG THE INDEX
-pub skip-next : (book : List ℕ) (first n : ℕ) (ws : List ℕ) (i b own : ℕ) → Indexed book first n ws → i < n → own ≡ bucketOf book first i → own ≡ b → Skips book first n b (i + 1) (getD ws (5120 + i) 0)
-skip-next book first n ws i b own I h e t = skip-to book first n b (i + 1) (getD ws (5120 + i) 0) (omega arith) (I .nexts i h ∙ ap (λ (x : ℕ). nextIn book first x (i + 1) (n - (i + 1))) (sym e ∙ t))
+module _ (book : List ℕ) (first n : ℕ) (ws : List ℕ) (f : ℕ) (I : Indexed book first n ws) where
+  abbrev b : ℕ
+  b = f % 1024
 
-pub skip-first : (book : List ℕ) (first n : ℕ) (ws : List ℕ) (k b : ℕ) → Indexed book first n ws → b < 1024 → k ≡ 0 → Skips book first n b k (getD ws (4096 + b) 0)
-skip-first book first n ws k b I h e =
-    let z : n - k ≡ n = omega arith in
-    skip-to book first n b k (getD ws (4096 + b) 0) (omega arith) (I .firsts b h ∙ rw (z, e) refl)
+  first-is : getD ws (4096 + b) 0 ≡ nextIn book first b 0 (n - 0)
+  first-is = let z : n - 0 ≡ n = omega arith in I .firsts b (omega arith) ∙ rw z refl
+
+  pub first-bucket : InBucket book first n b (getD ws (4096 + b) 0)
+  first-bucket = skip-within book first n 0 _ (omega arith) b first-is
+
+  pub first-skips : (m r : ℕ) → r ≡ nextMatch book f m first (getD ws (4096 + b) 0) (n - getD ws (4096 + b) 0) → r ≡ nextMatch book f m first 0 n
+  first-skips m r e = let z : n - 0 ≡ n = omega arith in e ∙ skip-same book first n 0 _ (omega arith) f m first-is ∙ rw z refl
+
+  module _ (i : ℕ) (h : i < n) (e : bucketOf book first i ≡ b) where
+    next-is : getD ws (5120 + i) 0 ≡ nextIn book first b (i + 1) (n - (i + 1))
+    next-is = I .nexts i h ∙ ap (λ (x : ℕ). nextIn book first x (i + 1) (n - (i + 1))) e
+
+    pub next-bucket : InBucket book first n b (getD ws (5120 + i) 0)
+    next-bucket = skip-within book first n (i + 1) _ (omega arith) b next-is
+
+    pub next-later : i < getD ws (5120 + i) 0
+    next-later = rw next-is (omega (arith, in-bounds book first b (i + 1) (n - (i + 1)) .0))
+
+    pub next-skips : (m : ℕ) → nextMatch book f m first (getD ws (5120 + i) 0) (n - getD ws (5120 + i) 0) ≡ nextMatch book f m first (i + 1) (n - (i + 1))
+    next-skips m = skip-same book first n (i + 1) _ (omega arith) f m next-is
+
+-- a clause that matches is in its symbol's bucket
+pub matching-bucket : (book : List ℕ) (first f m i : ℕ) → headMatches book f m (field book (first + i) 1) ≡ true → bucketOf book first i ≡ f % 1024
+unfolding bucketOf
+matching-bucket book first f m i e = go (ℕ-discrete (f % 1024) (bucketOf book first i))
+  where
+    go : Dec (f % 1024 ≡ bucketOf book first i) → bucketOf book first i ≡ f % 1024
+    go (yes x) = sym x
+    go (no x) = let y = other-head book first f m i x in let z : _≡_ {A = Bool} true false = sym e ∙ y in let w : _≡_ {A = ℕ} 0 1 = cc in absurd (omega arith)

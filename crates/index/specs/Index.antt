@@ -8,7 +8,6 @@ use lib.Dec.{eqb}
 use lib.ListN.{getD}
 use Rattle.book.specs.Records.{field}
 use Rattle.words.specs.Frame.{Keeps}
-use Rattle.index.specs.Runs.{nextMatch}
 
 -- the bucket of clause i of the run from link `first` on
 unfoldable pub bucketOf : List ℕ → ℕ → ℕ → ℕ
@@ -38,8 +37,7 @@ pub record IndexedFrom (book : List ℕ) (first n i : ℕ) (ws ws′ : List ℕ)
   pub between : Keeps 5120 (5120 + i) ws ws′
   pub above : Keeps (5120 + n) 16384 ws ws′
 
--- for a symbol of bucket b nothing matches from clause k up to clause r
-pub record Skips (book : List ℕ) (first n b k r : ℕ) : Type 0 where
-  pub from : k ≤ r
+-- clause r, if there is one, is in bucket b
+pub record InBucket (book : List ℕ) (first n b r : ℕ) : Type 0 where
   pub within : r ≤ n
-  pub skips : (f m : ℕ) → f % 1024 ≡ b → nextMatch book f m first k (n - k) ≡ nextMatch book f m first r (n - r)
+  pub bucket : r < n → bucketOf book first r ≡ b

@@ -1,11 +1,12 @@
 // Finding clauses by their heads: the next clause of a run whose head matches an atom, and an index of the question's own run by head symbol.
 ghost use mathlib.Core.Path.{_≡_};
+ghost use mathlib.Core.Bool.{true};
 ghost use Prim.Native.Nat.{_+_, _-_, _*_, _%_, _≤_, _<_};
 ghost use lib.ListN.{length, getD, set};
 ghost use Rattle.book.specs.Records.{field as bookField, records};
 ghost use Rattle.words.specs.Readable.{Readable};
 ghost use Rattle.index.specs.Runs.{headMatches, nextMatch, ClauseRun};
-ghost use Rattle.index.specs.Index.{bucketOf, Indexed, EmptyFrom, IndexedFrom, Skips};
+ghost use Rattle.index.specs.Index.{bucketOf, Indexed, EmptyFrom, IndexedFrom, InBucket};
 
 // Whether the head of clause c has symbol f and m arguments.
 fn head_matches(book: &[u8], c: u32, f: u32, m: u32) -> bool
@@ -84,52 +85,47 @@ pub fn make_index(book: &[u8], ws: &mut [u32], first: u32, n: u32)
     }
 }
 
-// The next clause to try after clause i for a symbol of bucket b.
-fn after(book: &[u8], ws: &[u32], first: u32, n: u32, i: u32, b: u32) -> u32
+// The first of the clauses of an indexed run of n, from number j on, that matches; n if there is none. Clause j, if there is one, is in the symbol's bucket.
+fn match_along(book: &[u8], ws: &[u32], first: u32, n: u32, j: u32, f: u32, m: u32) -> u32
     requires { ⌜ Readable (now book) ⌝ }
     requires { ⌜ ClauseRun (now book) first n ⌝ }
-    requires { ⌜ (i < n) × (first < 4096) × (n ≤ 1024) × (length (now ws) ≡ 16384) ⌝ }
+    requires { ⌜ (first < 4096) × (n ≤ 1024) × (length (now ws) ≡ 16384) ⌝ }
     requires { ⌜ Indexed (now book) first n (now ws) ⌝ }
-    ensures { λ r. ⌜ Skips (now (book .entry)) first n b (i + 1) r ⌝ }
+    requires { ⌜ InBucket (now book) first n (f % 1024) j ⌝ }
+    ensures { λ r. ⌜ r ≡ nextMatch (now (book .entry)) f m first j (n - j) ⌝ }
 {
-    let own = bucket(book, first, n, i);
-    if own == b {
-        return ws[(5120 + i) as usize];
-    }
-    i + 1
-}
-
-// The first clause to try from clause k on for a symbol of bucket b.
-fn begin(book: &[u8], ws: &[u32], first: u32, n: u32, k: u32, b: u32) -> u32
-    requires { ⌜ Readable (now book) ⌝ }
-    requires { ⌜ ClauseRun (now book) first n ⌝ }
-    requires { ⌜ (k ≤ n) × (first < 4096) × (n ≤ 1024) × (length (now ws) ≡ 16384) ⌝ }
-    requires { ⌜ b < 1024 ⌝ }
-    requires { ⌜ Indexed (now book) first n (now ws) ⌝ }
-    ensures { λ r. ⌜ Skips (now (book .entry)) first n b k r ⌝ }
-{
-    if k == 0 {
-        return ws[(4096 + b) as usize];
-    }
-    after(book, ws, first, n, k - 1, b)
-}
-
-// The first of the clauses of an indexed run of n, from number k on, that matches; n if there is none.
-pub fn seek_indexed(book: &[u8], ws: &[u32], first: u32, n: u32, k: u32, f: u32, m: u32) -> u32
-    requires { ⌜ Readable (now book) ⌝ }
-    requires { ⌜ ClauseRun (now book) first n ⌝ }
-    requires { ⌜ (k ≤ n) × (first < 4096) × (n ≤ 1024) × (length (now ws) ≡ 16384) ⌝ }
-    requires { ⌜ Indexed (now book) first n (now ws) ⌝ }
-    ensures { λ r. ⌜ r ≡ nextMatch (now (book .entry)) f m first k (n - k) ⌝ }
-{
-    let b = f % 1024;
-    let mut i = begin(book, ws, first, n, k, b);
+    let mut i = j;
     while i < n {
         let c = words::field(book, first + i, 1);
         if head_matches(book, c, f, m) {
             return i;
         }
-        i = after(book, ws, first, n, i, b);
+        i = ws[(5120 + i) as usize];
     }
     i
+}
+
+// The first of the clauses of an indexed run of n that matches; n if there is none.
+pub fn first_match(book: &[u8], ws: &[u32], first: u32, n: u32, f: u32, m: u32) -> u32
+    requires { ⌜ Readable (now book) ⌝ }
+    requires { ⌜ ClauseRun (now book) first n ⌝ }
+    requires { ⌜ (first < 4096) × (n ≤ 1024) × (length (now ws) ≡ 16384) ⌝ }
+    requires { ⌜ Indexed (now book) first n (now ws) ⌝ }
+    ensures { λ r. ⌜ r ≡ nextMatch (now (book .entry)) f m first 0 n ⌝ }
+{
+    let j = ws[(4096 + f % 1024) as usize];
+    match_along(book, ws, first, n, j, f, m)
+}
+
+// The first after clause i, which matches, that matches too; n if there is none.
+pub fn match_after(book: &[u8], ws: &[u32], first: u32, n: u32, i: u32, f: u32, m: u32) -> u32
+    requires { ⌜ Readable (now book) ⌝ }
+    requires { ⌜ ClauseRun (now book) first n ⌝ }
+    requires { ⌜ (i < n) × (first < 4096) × (n ≤ 1024) × (length (now ws) ≡ 16384) ⌝ }
+    requires { ⌜ Indexed (now book) first n (now ws) ⌝ }
+    requires { ⌜ headMatches (now book) f m (bookField (now book) (first + i) 1) ≡ true ⌝ }
+    ensures { λ r. ⌜ r ≡ nextMatch (now (book .entry)) f m first (i + 1) (n - (i + 1)) ⌝ }
+{
+    let j = ws[(5120 + i) as usize];
+    match_along(book, ws, first, n, j, f, m)
 }

@@ -2,7 +2,7 @@
 use mathlib.Core.Path.{_≡_, refl, sym, _∙_, ap}
 use mathlib.Core.Bool.{true, false}
 use mathlib.Core.List.{List, _∷_}
-use Prim.Native.Nat.{ℕ, _-_}
+use Prim.Native.Nat.{ℕ, _-_, _≤_}
 use native.Mathlib.Omega.{arith}
 use native.Mathlib.Nat.{sub-zero}
 use lib.Dec.{eqb}
@@ -27,8 +27,13 @@ use Rattle.steps.specs.declared.Stepped.the-variants.{Onward, Finished}
 use Rattle.steps.specs.Search.{runOn, spentUnits, topsOf, Leaves, Stands, Stands.in-hand, StepGives, StepGives.steps-on, StepGives.steps-end}
 use Rattle.returning.specs.Returns.{ToClause, Returned, Returned.to-goal, Returned.to-clause}
 use Rattle.returning.specs.Reentry.{regsAgain, Tries}
+use Rattle.returning.specs.declared.Reached.{Reached}
+use Rattle.returning.specs.declared.Reached.the-variants.{Done, Clause}
+use Rattle.returning.specs.Passing.{regsGone, laterBy}
+use Rattle.returning.specs.Reaching.{ReachGives, ReachGives.reach-done, ReachGives.reach-clause, CanGoOn, CanGoOn.is-done, CanGoOn.is-clause, GoesOn}
+use Rattle.returning.proofs.PassLaws.{pass-none, after-pass}
 use Rattle.returning.proofs.RenewLaws.{atom-large}
-use Rattle.returning.proofs.CandidateLaws.{none-spent, no-budget}
+use Rattle.returning.proofs.CandidateLaws.{none-spent}
 use Rattle.returning.proofs.TryLaws.{flag-back}
 use Rattle.returning.proofs.ReturnLaws.{stands-back, Newest, newest, returned}
 
@@ -81,8 +86,39 @@ module _ (book : List ℕ) (ws : List ℕ) (r : Regs) (threads : List Thread) (e
               (λ q y ls. ap (λ (t : Tally). runOn q left t ls (solving b ∷ ts)) (none-spent y) ∙ ap (λ (n : ℕ). runOn q n (spentUnits 0 y) ls (solving b ∷ ts)) (sym (sub-zero left)))
           go (to-clause {threads = us} X) = absurd (omega (arith, atom-large book ws₁ k x us X))
 
-      pub spent-here : Readable book → Accepted book → (x .atom ≡ 0 → ⊥) → left ≡ 0 → StepGives book ws ws₁ r left threads (Finished (StoppedEnding Budget) 0)
-      spent-here R A h z = gives-from stays (no-budget book R A ws₁ k x threads (clause-here h) r left z)
+      pub clause-reached : (x .atom ≡ 0 → ⊥) → ReachGives book ws ws₁ r left threads (Clause x k 0)
+      clause-reached h = reach-clause {x = x} {k = k} {used = 0} {threads′ = threads} (omega arith) (rw e (omega arith)) stays (clause-here h) (pass-none left threads)
 
-      pub tried-next : (ws₂ : List ℕ) (o : Stepped) → (x .atom ≡ 0 → ⊥) → Tries book ws₁ ws₂ k x left o → StepGives book ws ws₂ r left threads o
-      tried-next ws₂ o h T = gives-from stays (T r threads e (clause-here h))
+-- GOING ON
+module _ {book ws ws′ : List ℕ} {left : ℕ} where
+  pub on-done : (s : Stepped) (o : Reached) → o ≡ Done s → ws′ ≡ ws → GoesOn book ws ws′ left o s
+  on-done s o d w ws₀ r threads G = go G d
+    where
+      go : {o : Reached} → ReachGives book ws₀ ws r left threads o → o ≡ Done s → StepGives book ws₀ ws′ r left threads s
+      go (reach-done {s = t} S) e = let z : t ≡ s = cc in rw (w, ← z) S
+      go (reach-clause a b c X P) e = let z : _≡_ {A = ℕ} 0 1 = cc in absurd (omega arith)
+
+  pub on-clause : (x : Back) (j n : ℕ) (s t : Stepped) (o : Reached) → o ≡ Clause x j n → Tries book ws ws′ j x (left - n) s → t ≡ laterBy n s → GoesOn book ws ws′ left o t
+  on-clause x j n s t o d T l ws₀ r threads G = rw l (go G d)
+    where
+      go : {o : Reached} → ReachGives book ws₀ ws r left threads o → o ≡ Clause x j n → StepGives book ws₀ ws′ r left threads (laterBy n s)
+      go (reach-done S) e = let z : _≡_ {A = ℕ} 0 1 = cc in absurd (omega arith)
+      go (reach-clause {x = y} {k = i} {used = m} {threads′ = us} a b L X P) e =
+          let xe : y ≡ x = cc in
+          let ke : i ≡ j = cc in
+          let ne : m ≡ n = cc in
+          gives-from L (after-pass {r₀ = regsGone x j} (rw (← ne) a) (omega (arith, b, ne)) (rw ne at P) (T (regsGone x j) us refl (rw (xe, ke) at X)))
+
+-- what it asks for
+module _ {book ws : List ℕ} {left : ℕ} where
+  pub can-go-on : {o : Reached} {ws₀ : List ℕ} {r : Regs} {threads : List Thread} → ReachGives book ws₀ ws r left threads o → CanGoOn book ws left o
+  can-go-on (reach-done S) = is-done
+  can-go-on (reach-clause {threads′ = us} a b L X P) = is-clause {threads = us} a X
+
+  pub clause-asked : (x : Back) (j n : ℕ) (o : Reached) → CanGoOn book ws left o → o ≡ Clause x j n → (n ≤ left) × ((threads : List Thread) × ToClause book ws j x threads)
+  clause-asked x j n o (is-clause {x = y} {k = i} {used = m} {threads = us} a X) e =
+      let xe : y ≡ x = cc in
+      let ke : i ≡ j = cc in
+      let ne : m ≡ n = cc in
+      (rw (← ne) a, (us, rw (xe, ke) at X))
+  clause-asked x j n o is-done e = let z : _≡_ {A = ℕ} 0 1 = cc in absurd (omega arith)

@@ -30,7 +30,7 @@ use Rattle.branch.specs.Seeking.{Sought, Sought.sought, Sought.no-more}
 use Rattle.steps.specs.declared.Regs.{Regs}
 use Rattle.steps.specs.declared.Stepped.{Stepped}
 use Rattle.steps.specs.declared.Stepped.the-variants.{Onward, Finished}
-use Rattle.steps.specs.Search.{runOn, spentUnits, Stands.going-back, StepGives, StepGives.steps-on, StepGives.steps-end}
+use Rattle.steps.specs.Search.{runOn, spentUnits, phase, Stands.going-back, StepGives, StepGives.steps-on, StepGives.steps-end}
 use Rattle.steps.proofs.ReadyLaws.{has-atom}
 use Rattle.steps.proofs.LeaveLaws.{leaves-none}
 use Rattle.returning.specs.declared.Pass.{Pass}
@@ -231,15 +231,15 @@ spent-both : (used n : ℕ) (y : Tally) → spentUnits n (spentUnits used y) ≡
 unfolding spentUnits
 spent-both used n y = let z : y .units + used + n ≡ y .units + (used + n) = omega arith in rw z refl
 
-after-pass : {book ws ws′ : List ℕ} {r : Regs} {left used : ℕ} {threads threads′ : List Thread} {s : Stepped} → used ≤ left → Passes left used threads threads′
-    → StepGives book ws ws′ r (left - used) threads′ s → StepGives book ws ws′ r left threads (laterBy used s)
+pub after-pass : {book ws ws′ : List ℕ} {r r₀ : Regs} {left used : ℕ} {threads threads′ : List Thread} {s : Stepped} → used ≤ left → phase (r₀ .solving) ≤ 2 * used + phase (r .solving) → Passes left used threads threads′
+    → StepGives book ws ws′ r₀ (left - used) threads′ s → StepGives book ws ws′ r left threads (laterBy used s)
 unfolding laterBy
-after-pass {left = left} {used = used} {threads′ = us} h P (steps-on {r′ = r′} {used = n} {threads′ = vs} a b c d e) =
+after-pass {left = left} {used = used} {threads′ = us} h f P (steps-on {r′ = r′} {used = n} {threads′ = vs} a b c d e) =
     steps-on {r′ = r′} {used = used + n} {threads′ = vs} (omega arith) (omega arith) c d
     (λ q y ls.
     let z : left - used - n ≡ left - (used + n) = omega arith in
     P q y ls ∙ e q (spentUnits used y) ls ∙ ap (λ (m : ℕ). runOn q m (spentUnits n (spentUnits used y)) ls vs) z ∙ ap (λ (t : Tally). runOn q (left - (used + n)) t ls vs) (spent-both used n y))
-after-pass {left = left} {used = used} {threads′ = us} h P (steps-end {e = x} {used = n} a b e) =
+after-pass {left = left} {used = used} {threads′ = us} h f P (steps-end {e = x} {used = n} a b e) =
     steps-end {e = x} {used = used + n} (omega arith) b
     (λ q y ls. P q y ls ∙ e q (spentUnits used y) ls ∙ ap (λ (t : Tally). record { ending = x; tally = t; lines = ls }) (spent-both used n y))
 
@@ -259,12 +259,12 @@ module _ (book : List ℕ) (R : Readable book) (A : Accepted book) (ws : List �
     pass-budget r l threads X =
         let p = came-to y used (P threads X) e in
         let z : used + 0 ≡ used = omega arith in
-        let S = after-pass (p .0) (p .1 .2) (no-budget book R A ws k y (p .1 .0) (p .1 .1) r (left - used) (omega arith)) in
+        let S = after-pass {r = r} {r₀ = r} (p .0) (omega arith) (p .1 .2) (no-budget book R A ws k y (p .1 .0) (p .1 .1) r (left - used) (omega arith)) in
         rw z at S
 
     pub pass-next : (r : Regs) (ws′ : List ℕ) (s t : Stepped) → ((threads : List Thread) → ToClause book ws k y threads → StepGives book ws ws′ r (left - used) threads s) → t ≡ laterBy used s
         → (threads : List Thread) → ToClause book ws k x threads → StepGives book ws ws′ r left threads t
-    pass-next r ws′ s t T d threads X = let p = came-to y used (P threads X) e in rw d (after-pass (p .0) (p .1 .2) (T (p .1 .0) (p .1 .1)))
+    pass-next r ws′ s t T d threads X = let p = came-to y used (P threads X) e in rw d (after-pass {r₀ = r} (p .0) (omega arith) (p .1 .2) (T (p .1 .0) (p .1 .1)))
 
   pub pass-through : (y : Back) (used : ℕ) → o ≡ Through y used → (r g : Regs) → r .solving ≡ false → g ≡ regsGone y k → (threads : List Thread) → ToClause book ws k x threads → StepGives book ws ws r left threads (Onward g used)
   pass-through y used e r g s d threads X = rw d (go (P threads X) e)

@@ -16,7 +16,7 @@ use Rattle.branch.specs.declared.Candidate.{Candidate}
 use Rattle.branch.specs.declared.Candidate.the-variants.{At, Nothing}
 use Rattle.branch.specs.State.{IsRest, IsRest.own-rest, IsRest.put-rest, IsClause, IsGoals, IsGoals.no-goals, IsGoals.goal-cell, Sound, Alternative.other-clause, Agree}
 use Rattle.branch.specs.Alternatives.{keepWords}
-use Rattle.branch.specs.Seeking.{Sought, Sought.sought, Sought.no-more}
+use Rattle.branch.specs.Seeking.{IsCandidate, Sought, Sought.sought, Sought.no-more}
 use Rattle.branch.proofs.StateLaws.{rest-agree, waiting-push}
 use Rattle.branch.proofs.KeepLaws.{kept-0, kept-1, kept-2, kept-3, kept-4, kept-5, kept-6, kept-outside, keep-agree}
 use Rattle.steps.proofs.LeaveLaws.{leaves-none, leaves-kept}
@@ -133,6 +133,13 @@ module _ (book : List ℕ) (ws : List ℕ) (k : ℕ) (x : Back) (threads : List 
         let y : f ≡ field book (X .a) 1 = fe ∙ ap (λ (r : ℕ). field book r 1) z in
         let w : m ≡ field book (X .a) 2 = me ∙ ap (λ (r : ℕ). field book r 2) z in
         rw (← y, ← w) (s (X .after) standing)
+
+    pub candidate-here : IsCandidate book ws (x .made) (x .programs) (x .node) (x .index) f m
+    candidate-here =
+        let z : a ≡ X .a = ae ∙ atom-record in
+        let y : f ≡ field book (X .a) 1 = fe ∙ ap (λ (r : ℕ). field book r 1) z in
+        let w : m ≡ field book (X .a) 2 = me ∙ ap (λ (r : ℕ). field book r 2) z in
+        record { c = X .f; after = X .after; clause = X .with .clause; first = rw (y, w) (X .with .first) }
 
     pub keep-ready : (o : Candidate) (q i : ℕ) → Says o → o ≡ At q i → Small q
     keep-ready o q i s e = go (rw e at (here o s))

@@ -2,3 +2,4 @@
 pub mod Returns
 pub mod Reentry
 pub mod Passing
+pub mod Reaching

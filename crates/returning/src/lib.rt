@@ -10,9 +10,10 @@ ghost use Rattle.machine.specs.Machine.{Thread};
 ghost use Rattle.words.specs.Readable.{Readable};
 ghost use Rattle.words.specs.Words.{recOf};
 ghost use Rattle.branch.specs.Seeking.{OwnIndexed};
-ghost use Rattle.steps.specs.Search.{Stands, StepContract};
+ghost use Rattle.steps.specs.Search.{Stands};
 ghost use Rattle.returning.specs.Returns.{Leads, ToClause};
 ghost use Rattle.returning.specs.Reentry.{placeOf, moved, Renewed, bodyWords, frontOf, regsAgain, outcomeOf, Tries};
+ghost use Rattle.returning.specs.Reaching.{ReachContract, CanGoOn, GoesOn};
 ghost use Rattle.returning.specs.Passing.{firstArgument, FirstIs, Clashes, OnePass, PassGives, regsGone, unitsOf, laterBy};
 use branch::Back;
 use branch::Candidate;
@@ -70,7 +71,7 @@ fn renew(book: &[u8], ws: &mut [u32], k: u32, x: Back) -> u32
     let a = x.atom / 4096 - 1;
     let f = words::field(book, a, 1);
     let m = words::field(book, a, 2);
-    let next = branch::seek(book, x.made, ws, x.programs, x.node, x.index + 1, f, m);
+    let next = branch::seek_after(book, x.made, ws, x.programs, x.node, x.index, f, m);
     match next {
         Candidate::At(q, i) => {
             branch::keep(
@@ -227,7 +228,7 @@ fn pass_one(book: &[u8], ws: &[u32], k: u32, x: Back, w: u32) -> Pass
     let a = x.atom / 4096 - 1;
     let f = words::field(book, a, 1);
     let m = words::field(book, a, 2);
-    match branch::seek(book, x.made, ws, x.programs, x.node, x.index + 1, f, m) {
+    match branch::seek_after(book, x.made, ws, x.programs, x.node, x.index, f, m) {
         Candidate::At(q, i) => Pass::Onto(q, i),
         Candidate::Nothing => Pass::Gone,
     }
@@ -338,7 +339,6 @@ fn later(used: u32, s: Stepped) -> Stepped
 fn try_all(book: &[u8], ws: &mut [u32], k: u32, x: Back, left: u32) -> Stepped
     requires { ⌜ Readable (now book) ⌝ }
     requires { ⌜ Accepted (now book) × OwnIndexed (now book) (now ws) ⌝ }
-    requires { ⌜ 0 < left ⌝ }
     requires { ⌜ ((threads : List Thread) × ToClause (now book) (now ws) k x threads) ⌝ }
     ensures { λ o. ⌜ Tries (now (book .entry)) (now (ws .entry)) (now (ws .exit)) k x left o ⌝ }
 {
@@ -372,24 +372,41 @@ fn restored(kept: Back, n: u32) -> Regs
     }
 }
 
+// What a step has reached: it is done; or a candidate is to be tried, by the numbers of alternative k, whose place is free, after so many units.
+pub enum Reached {
+    Done(Stepped),
+    Clause(Back, u32, u32),
+}
+
 // Goes back to the newest alternative; with none left the search is complete.
-pub fn back(book: &[u8], ws: &mut [u32], r: Regs, left: u32) -> Stepped
-    requires { ⌜ Readable (now book) ⌝ }
-    requires { ⌜ Accepted (now book) × OwnIndexed (now book) (now ws) ⌝ }
+pub fn back(book: &[u8], ws: &mut [u32], r: Regs, left: u32) -> Reached
     requires { ⌜ r .solving ≡ false ⌝ }
     requires { ⌜ ((threads : List Thread) × Stands (now book) (now ws) r threads) ⌝ }
-    ensures { λ o. ⌜ StepContract (now (book .entry)) (now (ws .entry)) (now (ws .exit)) r left o ⌝ }
+    ensures { λ o. ⌜ ReachContract (now (book .entry)) (now (ws .entry)) (now (ws .exit)) r left o ⌝ }
 {
     if r.alternatives == 0 {
-        return Stepped::Finished(Ending::Complete, 0);
+        return Reached::Done(Stepped::Finished(Ending::Complete, 0));
     }
     let k = r.alternatives - 1;
     let x = branch::go_back(ws, k, r.trail);
     if x.atom == 0 {
-        return Stepped::Onward(restored(x, k), 0);
+        return Reached::Done(Stepped::Onward(restored(x, k), 0));
     }
-    if left == 0 {
-        return Stepped::Finished(Ending::Stopped(Limit::Budget), 0);
+    Reached::Clause(x, k, 0)
+}
+
+// Goes on from what a step has reached: a candidate is tried.
+pub fn go_on(book: &[u8], ws: &mut [u32], o: Reached, left: u32) -> Stepped
+    requires { ⌜ Readable (now book) ⌝ }
+    requires { ⌜ Accepted (now book) × OwnIndexed (now book) (now ws) ⌝ }
+    requires { ⌜ CanGoOn (now book) (now ws) left o ⌝ }
+    ensures { λ s. ⌜ GoesOn (now (book .entry)) (now (ws .entry)) (now (ws .exit)) left o s ⌝ }
+{
+    match o {
+        Reached::Done(s) => s,
+        Reached::Clause(x, k, used) => {
+            let s = try_all(book, ws, k, x, left - used);
+            later(used, s)
+        }
     }
-    try_all(book, ws, k, x, left)
 }

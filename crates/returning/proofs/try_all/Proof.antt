@@ -15,7 +15,7 @@ use Rattle.returning.proofs.try_next.Reads as try-next-reads
 
 -- src/lib.rt:345:11
 pass-over-requires : tie.Need-pass-over-requires
-pass-over-requires c κs = let p = c .before .before .before .pre in (p .0, (p .1 .0, p .1 .1 .1))
+pass-over-requires c κs = let p = c .before .before .before .pre in (p .0, (p .1 .0, p .1 .1))
 
 -- src/lib.rt:346:25
 enum-known-y : tie.Need-enum-known-y
@@ -43,13 +43,13 @@ sub-try-next c = omega (arith, c .before .if1 .left)
 
 -- src/lib.rt:351:17
 try-next-requires : tie.Need-try-next-requires
-try-next-requires c κs = let p = c .before .before .before .before .before .before .before .before .before .pre in let s = pass-some _ (p .0) (p .1 .0 .0) _ _ _ _ _ (c .before .before .before .before .before .pass-over .ensures) _ _ (c .before .before .before .y2 .given .1) (p .1 .1 .1) in (p .0, (p .1 .0, (omega (arith, c .before .if1 .left), s .1)))
+try-next-requires c κs = let p = c .before .before .before .before .before .before .before .before .before .pre in let s = pass-some _ (p .0) (p .1 .0 .0) _ _ _ _ _ (c .before .before .before .before .before .pass-over .ensures) _ _ (c .before .before .before .y2 .given .1) (p .1 .1) in (p .0, (p .1 .0, (omega (arith, c .before .if1 .left), s .1)))
 
 -- src/lib.rt:352:13
 later-requires : tie.Need-later-requires
 later-requires c κs =
     let p = c .before .before .before .before .before .before .before .before .before .before .before .before .pre in
-    let s = pass-some _ (p .0) (p .1 .0 .0) _ _ _ _ _ (c .before .before .before .before .before .before .before .before .pass-over .ensures) _ _ (c .before .before .before .before .before .before .y2 .given .1) (p .1 .1 .1) in
+    let s = pass-some _ (p .0) (p .1 .0 .0) _ _ _ _ _ (c .before .before .before .before .before .before .before .before .pass-over .ensures) _ _ (c .before .before .before .before .before .before .y2 .given .1) (p .1 .1) in
     let h : c .before .before .before .before .before .before .before .before .before .before .before .before .args .left < 4294967296 = search needs in
     let u = units-most (c .before .before .try-next .ensures (regsGone (c .before .before .before .before .before .before .y2 .given .0 .0) 0) (s .1 .0) refl (s .1 .1)) in
     omega (arith, u, s .0, h)

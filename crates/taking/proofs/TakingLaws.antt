@@ -21,7 +21,10 @@ use Rattle.branch.specs.Seeking.{Standing}
 use Rattle.branch.proofs.TakeLaws.{CellAt, cell-at}
 use Rattle.steps.specs.declared.Regs.{Regs}
 use Rattle.steps.specs.declared.Stepped.the-variants.{Onward, Finished}
-use Rattle.steps.specs.Search.{topsOf, Stands, Stands.in-hand, Stands.going-back, StepContract}
+use Rattle.steps.specs.Search.{topsOf, Stands, Stands.in-hand, Stands.going-back}
+use Rattle.returning.specs.declared.Reached.{Reached}
+use Rattle.returning.specs.declared.Reached.the-variants.{Done}
+use Rattle.returning.specs.Reaching.{ReachGives.reach-done, ReachContract}
 use Rattle.taking.specs.declared.Cell.{Cell}
 use Rattle.taking.specs.Takes.{cellOf, Room, andWords, andRegs, orWords, orRegs, supposeWords, supposeRegs, AtomTaken}
 use Rattle.taking.proofs.HandLaws.{Hand, trail-room}
@@ -123,10 +126,10 @@ module _ (book ws : List ℕ) (r : Regs) (s : r .solving ≡ true) (c : 0 < r .c
 
 -- and whatever threads they stand for, it is the machine's unit
 module _ (book : List ℕ) (F : Formed book) (ws : List ℕ) (r : Regs) (left : ℕ) (s : r .solving ≡ true) (c : 0 < r .cell) (h : 0 < left) where
-  pub stops : 512 ≤ r .taken → StepContract book ws ws r left (Finished (Stopped Goals) 0)
-  stops l threads Z = let T = facing s c Z in rw (T .is) (goals-stop book F ws r left (T .branch) (T .waiting) h (T .hand) (T .cell) l)
+  pub stops : 512 ≤ r .taken → ReachContract book ws ws r left (Done (Finished (Stopped Goals) 0))
+  stops l threads Z = let T = facing s c Z in rw (T .is) (reach-done (goals-stop book F ws r left (T .branch) (T .waiting) h (T .hand) (T .cell) l))
 
-  module _ (x : Cell) (xe : x ≡ cellOf ws (r .cell)) (l : r .taken < 512) (kind : ℕ) (ke : kind ≡ field book (x .goal) 0) (ws′ : List ℕ) (y : Regs) where
+  module _ (x : Cell) (xe : x ≡ cellOf ws (r .cell)) (l : r .taken < 512) (kind : ℕ) (ke : kind ≡ field book (x .goal) 0) where
     module _ (threads : List Thread) (Z : Stands book ws r threads) where
       abbrev face : Facing book ws r threads
       face = facing s c Z
@@ -137,24 +140,25 @@ module _ (book : List ℕ) (F : Formed book) (ws : List ℕ) (r : Regs) (left : 
       kind-here : kind ≡ field book (face .cell .g) 0
       kind-here = ke ∙ ap (λ (z : Cell). field book (z .goal) 0) read-as
 
-    pub takes-atom : kind ≡ 4 → AtomTaken book ws ws′ r x y → StepContract book ws ws′ r left (Onward y 1)
-    takes-atom k A threads Z =
+    pub takes-atom : kind ≡ 4 → (o : Reached) → AtomTaken book ws r x o → ReachContract book ws ws r left o
+    takes-atom k o A threads Z =
         let T = face threads Z in
-        rw (T .is) (atom-steps book F ws r left (T .branch) (T .waiting) h (T .hand) (T .cell) l (atom-kind book (T .cell .g) (sym (kind-here threads Z) ∙ k)) ws′ y (rw (read-as threads Z) at A))
+        rw (T .is) (atom-steps book F ws r left (T .branch) (T .waiting) h (T .hand) (T .cell) l (atom-kind book (T .cell .g) (sym (kind-here threads Z) ∙ k)) o (rw (read-as threads Z) at A))
 
-    pub takes-and : kind ≡ 5 → ws′ ≡ andWords book r x ws → y ≡ andRegs r → StepContract book ws ws′ r left (Onward y 1)
-    takes-and k e d threads Z =
-        let T = face threads Z in
-        rw (T .is, d) (and-steps book F ws r left (T .branch) (T .waiting) h (T .hand) (T .cell) l ws′ (and-kind book (T .cell .g) (sym (kind-here threads Z) ∙ k)) (rw (read-as threads Z) at e))
+    module _ (ws′ : List ℕ) (y : Regs) where
+      pub takes-and : kind ≡ 5 → ws′ ≡ andWords book r x ws → y ≡ andRegs r → ReachContract book ws ws′ r left (Done (Onward y 1))
+      takes-and k e d threads Z =
+          let T = face threads Z in
+          rw (T .is, d) (reach-done (and-steps book F ws r left (T .branch) (T .waiting) h (T .hand) (T .cell) l ws′ (and-kind book (T .cell .g) (sym (kind-here threads Z) ∙ k)) (rw (read-as threads Z) at e)))
 
-    pub takes-or : kind ≡ 6 → ws′ ≡ orWords book r x ws → y ≡ orRegs r → StepContract book ws ws′ r left (Onward y 1)
-    takes-or k e d threads Z =
-        let T = face threads Z in
-        rw (T .is, d) (or-steps book F ws r left (T .branch) (T .waiting) h (T .hand) (T .cell) l ws′ (or-kind book (T .cell .g) (sym (kind-here threads Z) ∙ k)) (rw (read-as threads Z) at e))
+      pub takes-or : kind ≡ 6 → ws′ ≡ orWords book r x ws → y ≡ orRegs r → ReachContract book ws ws′ r left (Done (Onward y 1))
+      takes-or k e d threads Z =
+          let T = face threads Z in
+          rw (T .is, d) (reach-done (or-steps book F ws r left (T .branch) (T .waiting) h (T .hand) (T .cell) l ws′ (or-kind book (T .cell .g) (sym (kind-here threads Z) ∙ k)) (rw (read-as threads Z) at e)))
 
-    pub takes-suppose : kind ≢ 4 → kind ≢ 5 → kind ≢ 6 → ws′ ≡ supposeWords book r x ws → y ≡ supposeRegs r → StepContract book ws ws′ r left (Onward y 1)
-    takes-suppose a b c e d threads Z =
-        let T = face threads Z in
-        let z = kind-here threads Z in
-        let k = suppose-kind book (T .cell .g) (T .cell .here .kind) (λ q. a (z ∙ q)) (λ q. b (z ∙ q)) (λ q. c (z ∙ q)) in
-        rw (T .is, d) (suppose-steps book F ws r left (T .branch) (T .waiting) h (T .hand) (T .cell) l ws′ k (rw (read-as threads Z) at e))
+      pub takes-suppose : kind ≢ 4 → kind ≢ 5 → kind ≢ 6 → ws′ ≡ supposeWords book r x ws → y ≡ supposeRegs r → ReachContract book ws ws′ r left (Done (Onward y 1))
+      takes-suppose a b c e d threads Z =
+          let T = face threads Z in
+          let z = kind-here threads Z in
+          let k = suppose-kind book (T .cell .g) (T .cell .here .kind) (λ q. a (z ∙ q)) (λ q. b (z ∙ q)) (λ q. c (z ∙ q)) in
+          rw (T .is, d) (reach-done (suppose-steps book F ws r left (T .branch) (T .waiting) h (T .hand) (T .cell) l ws′ k (rw (read-as threads Z) at e)))

@@ -14,6 +14,9 @@ use Rattle.branch.specs.State.{IsProgram, putCell, flag}
 use Rattle.branch.specs.Seeking.{Sought}
 use Rattle.branch.specs.Alternatives.{keepWords}
 use Rattle.steps.specs.declared.Regs.{Regs}
+use Rattle.steps.specs.declared.Stepped.the-variants.{Onward}
+use Rattle.returning.specs.declared.Reached.{Reached}
+use Rattle.returning.specs.declared.Reached.the-variants.{Done, Clause}
 use Rattle.taking.specs.declared.Cell.{Cell}
 
 -- goal cell c, read
@@ -45,10 +48,10 @@ inHand r cell programs alternatives supposed = record {
   solving = true;
 }
 
--- going back, with n alternatives
-unfoldable pub backRegs : Regs → ℕ → Regs
-backRegs r n = record
-    { made = r .made; trail = r .trail; cells = r .cells; programs = r .programs; alternatives = n; cell = 0; taken = 0; supposed = false; solving = false }
+-- going back
+unfoldable pub backRegs : Regs → Regs
+backRegs r = record
+    { made = r .made; trail = r .trail; cells = r .cells; programs = r .programs; alternatives = r .alternatives; cell = 0; taken = 0; supposed = false; solving = false }
 
 -- And: left goal then right goal, both with the program of the whole.
 unfoldable pub andWords : List ℕ → Regs → Cell → List ℕ → List ℕ
@@ -94,7 +97,7 @@ supposeWords book r x ws =
 unfoldable pub supposeRegs : Regs → Regs
 supposeRegs r = inHand r (r .cells) (r .programs + 1) (r .alternatives) true
 
--- Atom: the first candidate is kept as an alternative, to which the next step goes back; with none, go back.
+-- Atom: its first candidate is tried, in the place of the first free alternative; with none, go back.
 unfoldable pub atomKept : Regs → Cell → ℕ → ℕ → Back
 atomKept r x q i = record {
   made = r .made;
@@ -110,17 +113,12 @@ atomKept r x q i = record {
   index = i;
 }
 
-unfoldable pub atomWords : Regs → Cell → Candidate → List ℕ → List ℕ
-atomWords r x (At q i) ws = keepWords ws (r .alternatives) (atomKept r x q i)
-atomWords r x Nothing ws = ws
+unfoldable pub atomReached : Regs → Cell → Candidate → Reached
+atomReached r x (At q i) = Clause (atomKept r x q i) (r .alternatives) 1
+atomReached r x Nothing = Done (Onward (backRegs r) 1)
 
-unfoldable pub atomRegs : Regs → Candidate → Regs
-atomRegs r (At q i) = backRegs r (r .alternatives + 1)
-atomRegs r Nothing = backRegs r (r .alternatives)
-
-pub record AtomTaken (book ws ws′ : List ℕ) (r : Regs) (x : Cell) (y : Regs) : Type 0 where
+pub record AtomTaken (book ws : List ℕ) (r : Regs) (x : Cell) (y : Reached) : Type 0 where
   pub candidate : Candidate
   pub found : (program : List Force) → IsProgram book ws (r .made) (r .programs) (x .program) program
       → Sought book ws (r .made) (r .programs) (field book (x .goal) 1) (field book (x .goal) 2) program candidate
-  pub words : ws′ ≡ atomWords r x candidate ws
-  pub regs : y ≡ atomRegs r candidate
+  pub is : y ≡ atomReached r x candidate

@@ -7,16 +7,17 @@ ghost use Rattle.words.specs.Readable.{Readable};
 ghost use Rattle.book.specs.Records.{records};
 ghost use Rattle.book.proofs.Accepted.{Formed};
 ghost use Rattle.branch.specs.State.{flag};
-ghost use Rattle.branch.specs.Alternatives.{keepWords};
 ghost use Rattle.branch.specs.Seeking.{OwnReady, OwnIndexed, Standing};
 ghost use Rattle.machine.specs.Machine.{Thread};
 ghost use mathlib.Core.List.{List};
-ghost use Rattle.steps.specs.Search.{Stands, StepContract};
+ghost use Rattle.steps.specs.Search.{Stands};
+ghost use Rattle.returning.specs.Reaching.{ReachContract};
 ghost use Rattle.taking.specs.Takes.{cellOf, Room, inHand, backRegs, andWords, andRegs, orWords, orRegs, putProgram, supposeWords, supposeRegs, atomKept, AtomTaken};
 use branch::Back;
 use branch::Candidate;
 use machine::Ending;
 use machine::Limit;
+use returning::Reached;
 use steps::Regs;
 use steps::Stepped;
 
@@ -144,16 +145,16 @@ fn take_suppose(book: &[u8], ws: &mut [u32], r: Regs, x: Cell) -> Regs
     in_hand(r, cells, program + 1, r.alternatives, true)
 }
 
-// The registers for going back, with n alternatives.
-fn to_back(r: Regs, n: u32) -> Regs
-    ensures { λ x. ⌜ x ≡ backRegs r n ⌝ }
+// The registers for going back.
+fn to_back(r: Regs) -> Regs
+    ensures { λ x. ⌜ x ≡ backRegs r ⌝ }
 {
     Regs {
         made: r.made,
         trail: r.trail,
         cells: r.cells,
         programs: r.programs,
-        alternatives: n,
+        alternatives: r.alternatives,
         cell: 0,
         taken: 0,
         supposed: false,
@@ -161,13 +162,12 @@ fn to_back(r: Regs, n: u32) -> Regs
     }
 }
 
-// Keeps the candidate that is clause i of program q, for the atom of cell x.
-fn keep_atom(ws: &mut [u32], r: Regs, x: Cell, q: u32, i: u32)
-    requires { ⌜ Room (now ws) r x ⌝ }
-    requires { ⌜ q < 4096 ⌝ }
-    ensures { λ y. ⌜ now (ws .exit) ≡ keepWords (now (ws .entry)) (r .alternatives) (atomKept r x q i) ⌝ }
+// The numbers for the atom of cell x with the candidate that is clause i of program q.
+fn at_clause(r: Regs, x: Cell, q: u32, i: u32) -> Back
+    requires { ⌜ (x .goal < 4096) × (x .base < 4096) × (r .taken < 512) ⌝ }
+    ensures { λ y. ⌜ y ≡ atomKept r x q i ⌝ }
 {
-    let kept = Back {
+    Back {
         made: r.made,
         trail: r.trail,
         cells: r.cells,
@@ -179,58 +179,50 @@ fn keep_atom(ws: &mut [u32], r: Regs, x: Cell, q: u32, i: u32)
         call: x.program,
         node: q,
         index: i,
-    };
-    branch::keep(ws, r.alternatives, kept);
+    }
 }
 
-// Takes an atom: its first candidate is kept, to which the next step goes back.
-fn take_atom(book: &[u8], ws: &mut [u32], r: Regs, x: Cell) -> Regs
+// Takes an atom: its first candidate is tried next; with none, go back.
+fn take_atom(book: &[u8], ws: &[u32], r: Regs, x: Cell) -> Reached
     requires { ⌜ Readable (now book) ⌝ }
     requires { ⌜ Formed (now book) × OwnReady (now book) 0 × OwnIndexed (now book) (now ws) ⌝ }
     requires { ⌜ Standing (now book) (now ws) (r .made) (r .programs) (x .program) 0 ⌝ }
     requires { ⌜ x .goal < records (now book) ⌝ }
     requires { ⌜ Room (now ws) r x ⌝ }
-    ensures { λ y. ⌜ AtomTaken (now (book .entry)) (now (ws .entry)) (now (ws .exit)) r x y ⌝ }
+    ensures { λ y. ⌜ AtomTaken (now (book .entry)) (now (ws .entry)) r x y ⌝ }
 {
     let f = words::field(book, x.goal, 1);
     let m = words::field(book, x.goal, 2);
-    let found = branch::seek(book, r.made, ws, r.programs, x.program, 0, f, m);
-    match found {
-        Candidate::At(q, i) => {
-            keep_atom(ws, r, x, q, i);
-            return to_back(r, r.alternatives + 1);
-        }
-        Candidate::Nothing => {
-            return to_back(r, r.alternatives);
-        }
+    match branch::seek_first(book, r.made, ws, r.programs, x.program, f, m) {
+        Candidate::At(q, i) => Reached::Clause(at_clause(r, x, q, i), r.alternatives, 1),
+        Candidate::Nothing => Reached::Done(Stepped::Onward(to_back(r), 1)),
     }
 }
 
 // Takes the first goal of the branch in hand.
-pub fn take(book: &[u8], ws: &mut [u32], r: Regs, left: u32) -> Stepped
+pub fn take(book: &[u8], ws: &mut [u32], r: Regs, left: u32) -> Reached
     requires { ⌜ Readable (now book) ⌝ }
     requires { ⌜ Formed (now book) × OwnReady (now book) 0 × OwnIndexed (now book) (now ws) ⌝ }
     requires { ⌜ (r .solving ≡ true) × (0 < r .cell) × (0 < left) ⌝ }
     requires { ⌜ ((threads : List Thread) × Stands (now book) (now ws) r threads) ⌝ }
-    ensures { λ o. ⌜ StepContract (now (book .entry)) (now (ws .entry)) (now (ws .exit)) r left o ⌝ }
+    ensures { λ o. ⌜ ReachContract (now (book .entry)) (now (ws .entry)) (now (ws .exit)) r left o ⌝ }
 {
     if 512 <= r.taken {
-        return Stepped::Finished(Ending::Stopped(Limit::Goals), 0);
+        return Reached::Done(Stepped::Finished(Ending::Stopped(Limit::Goals), 0));
     }
     let x = read_cell(ws, r.cell);
     let kind = words::field(book, x.goal, 0);
     if kind == 4 {
-        let y = take_atom(book, ws, r, x);
-        return Stepped::Onward(y, 1);
+        return take_atom(book, ws, r, x);
     }
     if kind == 5 {
         let y = take_and(book, ws, r, x);
-        return Stepped::Onward(y, 1);
+        return Reached::Done(Stepped::Onward(y, 1));
     }
     if kind == 6 {
         let y = take_or(book, ws, r, x);
-        return Stepped::Onward(y, 1);
+        return Reached::Done(Stepped::Onward(y, 1));
     }
     let y = take_suppose(book, ws, r, x);
-    Stepped::Onward(y, 1)
+    Reached::Done(Stepped::Onward(y, 1))
 }

@@ -34,7 +34,7 @@ same-length c = search needs
 
 -- src/lib.rt:219:9
 returns-2 : tie.Need-returns-2
-returns-2 c = let p = c .before .before .before .before .before .before .before .before .before .before .before .before .pre in takes-atom _ (p .1 .0 .0) _ _ _ (p .1 .1 .0 .0) (p .1 .1 .0 .1) (p .1 .1 .0 .2) _ (c .before .before .before .before .before .before .read-cell .ensures) (omega (arith, c .before .before .before .before .before .before .before .before .if1 .left)) _ (c .before .before .before .before .before .field .ensures .0) _ _ (c .before .before .before .before .if2 .taken) (c .before .before .take-atom .ensures)
+returns-2 c = let p = c .before .before .before .before .before .before .before .before .before .before .pre in takes-atom _ (p .1 .0 .0) _ _ _ (p .1 .1 .0 .0) (p .1 .1 .0 .1) (p .1 .1 .0 .2) _ (c .before .before .before .before .read-cell .ensures) (omega (arith, c .before .before .before .before .before .before .if1 .left)) _ (c .before .before .before .field .ensures .0) (c .before .before .if2 .taken) _ (c .take-atom .ensures)
 
 -- src/lib.rt:222:13
 take-and-requires : tie.Need-take-and-requires

@@ -6,12 +6,8 @@ use Prim.Native.Nat.{ℕ, _-_, _≤_}
 use native.Mathlib.Omega.{arith}
 use native.Mathlib.Nat.{sub-zero}
 use lib.Dec.{eqb}
-use Rattle.book.proofs.Accepted.{Accepted}
-use Rattle.machine.specs.declared.Ending.the-variants.{Stopped as StoppedEnding}
-use Rattle.machine.specs.declared.Limit.the-variants.{Budget}
 use Rattle.machine.specs.declared.Tally.{Tally}
 use Rattle.machine.specs.Machine.{Thread, solving}
-use Rattle.words.specs.Readable.{Readable}
 use Rattle.words.specs.Frame.{undo}
 use Rattle.words.proofs.StackLaws.{keeps-narrow}
 use Rattle.index.proofs.IndexLaws.{indexed-same}
@@ -56,9 +52,6 @@ module _ (book : List ℕ) (ws : List ℕ) (r : Regs) (threads : List Thread) (e
     stays : Leaves ws ws₁
     stays = rw we (leaves-between {lo = 2048} (omega arith) (keeps-narrow (omega arith) (omega arith) (undo-keeps (r .trail - backOf ws k .trail) (backOf ws k .trail) ws (back-ready .small))))
 
-    pub index-stays : OwnReady book 0 → OwnIndexed book ws → OwnIndexed book ws₁
-    index-stays O I = indexed-same book (ownRun book .first) (ownRun book .count) (O .count-small) (stays .index) I
-
     here : Returned book ws₁ k x threads
     here = rw (we, xe, last .is) (returned book ws (topsOf r) k (last .thread) (last .ts) (last .resumed))
 
@@ -68,9 +61,6 @@ module _ (book : List ℕ) (ws : List ℕ) (r : Regs) (threads : List Thread) (e
         go : {us : List Thread} → Returned book ws₁ k x us → ToClause book ws₁ k x us
         go (to-goal z G) = absurd (h z)
         go (to-clause X) = X
-
-    pub next-ready : (x .atom ≡ 0 → ⊥) → (us : List Thread) × ToClause book ws₁ k x us
-    next-ready h = (threads, clause-here h)
 
     module _ (left : ℕ) where
       -- the right side of an or, which takes no unit
@@ -111,14 +101,14 @@ module _ {book ws ws′ : List ℕ} {left : ℕ} where
 
 -- what it asks for
 module _ {book ws : List ℕ} {left : ℕ} where
-  pub can-go-on : {o : Reached} {ws₀ : List ℕ} {r : Regs} {threads : List Thread} → ReachGives book ws₀ ws r left threads o → CanGoOn book ws left o
-  can-go-on (reach-done S) = is-done
-  can-go-on (reach-clause {threads′ = us} a b L X P) = is-clause {threads = us} a X
+  pub can-go-on : {o : Reached} {ws₀ : List ℕ} {r : Regs} {threads : List Thread} → OwnReady book 0 → OwnIndexed book ws₀ → ReachGives book ws₀ ws r left threads o → CanGoOn book ws left o
+  can-go-on O I (reach-done S) = is-done
+  can-go-on O I (reach-clause {threads′ = us} a b L X P) = is-clause {threads = us} a (indexed-same book (ownRun book .first) (ownRun book .count) (O .count-small) (L .index) I) X
 
-  pub clause-asked : (x : Back) (j n : ℕ) (o : Reached) → CanGoOn book ws left o → o ≡ Clause x j n → (n ≤ left) × ((threads : List Thread) × ToClause book ws j x threads)
-  clause-asked x j n o (is-clause {x = y} {k = i} {used = m} {threads = us} a X) e =
+  pub clause-asked : (x : Back) (j n : ℕ) (o : Reached) → CanGoOn book ws left o → o ≡ Clause x j n → (n ≤ left) × OwnIndexed book ws × ((threads : List Thread) × ToClause book ws j x threads)
+  clause-asked x j n o (is-clause {x = y} {k = i} {used = m} {threads = us} a I X) e =
       let xe : y ≡ x = cc in
       let ke : i ≡ j = cc in
       let ne : m ≡ n = cc in
-      (rw (← ne) a, (us, rw (xe, ke) at X))
+      (rw (← ne) a, I, (us, rw (xe, ke) at X))
   clause-asked x j n o is-done e = let z : _≡_ {A = ℕ} 0 1 = cc in absurd (omega arith)

@@ -3,6 +3,7 @@ use mathlib.Core.List.{List}
 use Prim.Native.Nat.{ℕ, _+_, _*_, _≤_, _<_}
 use Rattle.machine.specs.Machine.{Thread}
 use Rattle.branch.specs.declared.Back.{Back}
+use Rattle.branch.specs.Seeking.{OwnIndexed}
 use Rattle.steps.specs.declared.Regs.{Regs}
 use Rattle.steps.specs.declared.Stepped.{Stepped}
 use Rattle.steps.specs.Search.{Leaves, phase, Stands, StepGives}
@@ -23,7 +24,7 @@ ReachContract book ws ws′ r left o = (threads : List Thread) → Stands book w
 -- the candidate is there, and its units are within what is left
 pub data CanGoOn (book ws : List ℕ) (left : ℕ) : Reached → Type 0 where
   is-done : {s : Stepped} → CanGoOn book ws left (Done s)
-  is-clause : {x : Back} {k used : ℕ} {threads : List Thread} → used ≤ left → ToClause book ws k x threads → CanGoOn book ws left (Clause x k used)
+  is-clause : {x : Back} {k used : ℕ} {threads : List Thread} → used ≤ left → OwnIndexed book ws → ToClause book ws k x threads → CanGoOn book ws left (Clause x k used)
 
 -- whatever step reached this: with going on from it, it is a step of the search
 abbrev pub GoesOn : List ℕ → List ℕ → List ℕ → ℕ → Reached → Stepped → Type 0

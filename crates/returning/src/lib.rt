@@ -398,7 +398,7 @@ pub fn back(book: &[u8], ws: &mut [u32], r: Regs, left: u32) -> Reached
 // Goes on from what a step has reached: a candidate is tried.
 pub fn go_on(book: &[u8], ws: &mut [u32], o: Reached, left: u32) -> Stepped
     requires { ⌜ Readable (now book) ⌝ }
-    requires { ⌜ Accepted (now book) × OwnIndexed (now book) (now ws) ⌝ }
+    requires { ⌜ Accepted (now book) ⌝ }
     requires { ⌜ CanGoOn (now book) (now ws) left o ⌝ }
     ensures { λ s. ⌜ GoesOn (now (book .entry)) (now (ws .entry)) (now (ws .exit)) left o s ⌝ }
 {

@@ -26,11 +26,11 @@ sub-try-all c = let p = c .before .before .before .before .before .before .pre i
 
 -- src/lib.rt:408:17
 try-all-requires : tie.Need-try-all-requires
-try-all-requires c κs = let p = c .before .before .before .before .before .before .pre in (p .0, (p .1 .0, clause-asked _ _ _ _ (p .1 .1) (c .before .before .o2 .given .1) .1))
+try-all-requires c κs = let p = c .before .before .before .before .before .before .pre in let s = clause-asked _ _ _ _ (p .1 .1) (c .before .before .o2 .given .1) in (p .0, ((p .1 .0, s .1), s .2))
 
 -- src/lib.rt:409:13
 later-requires : tie.Need-later-requires
-later-requires c κs = let p = c .before .before .before .before .before .before .before .before .before .pre in let s = clause-asked _ _ _ _ (p .1 .1) (c .before .before .before .before .before .o2 .given .1) in let h : c .before .before .before .before .before .before .before .before .before .args .left < 4294967296 = search needs in let u = units-most (c .before .before .try-all .ensures (regsGone (c .before .before .before .before .before .o2 .given .0 .0) 0) (s .1 .0) refl (s .1 .1)) in omega (arith, u, s .0, h)
+later-requires c κs = let p = c .before .before .before .before .before .before .before .before .before .pre in let s = clause-asked _ _ _ _ (p .1 .1) (c .before .before .before .before .before .o2 .given .1) in let h : c .before .before .before .before .before .before .before .before .before .args .left < 4294967296 = search needs in let u = units-most (c .before .before .try-all .ensures (regsGone (c .before .before .before .before .before .o2 .given .0 .0) 0) (s .2 .0) refl (s .2 .1)) in omega (arith, u, s .0, h)
 
 -- src/lib.rt:399:1
 returns : tie.Need-returns

@@ -1,9 +1,11 @@
 -- A turn that is a step, and a turn that finds the budget spent.
 use mathlib.Core.Path.{_≡_, refl, sym, _∙_, ap}
-use mathlib.Core.Bool.{Bool, true, false}
+use mathlib.Core.Bool.{Bool, true, false, _&&_}
 use mathlib.Core.List.{List, [], _∷_}
 use Prim.Native.Nat.{ℕ, zero, suc, _+_, _-_, _*_, _/_, _≤_, _<_}
 use native.Mathlib.Omega.{arith}
+use borrow.Author.Tests.{eqb-true, eqb-false}
+use lib.Dec.{eqb}
 use Rattle.machine.specs.declared.Limit.the-variants.{Budget}
 use Rattle.machine.specs.declared.Ending.{Ending}
 use Rattle.machine.specs.declared.Ending.the-variants.{Stopped}
@@ -13,6 +15,11 @@ use Rattle.machine.specs.Run.{Result}
 use Rattle.machine.specs.Call.{filledBuffer}
 use Rattle.steps.specs.declared.Regs.{Regs}
 use Rattle.steps.specs.declared.Stepped.{Stepped}
+use Rattle.steps.specs.declared.Stepped.the-variants.{Finished}
+use Rattle.returning.specs.declared.Reached.{Reached}
+use Rattle.returning.specs.declared.Reached.the-variants.{Done}
+use Rattle.returning.specs.Reaching.{ReachGives.reach-done, ReachContract, GoesOn}
+use Rattle.returning.proofs.CandidateLaws.{none-spent}
 use Rattle.steps.specs.Search.{runOn, spentUnits, StepGives, StepGives.steps-on, StepGives.steps-end, StepContract}
 use Rattle.steps.proofs.RunLaws.{unit-none}
 use Rattle.running.specs.declared.Turned.{Turned}
@@ -20,8 +27,42 @@ use Rattle.running.specs.declared.Turned.the-variants.{Over}
 use Rattle.index.proofs.IndexLaws.{indexed-same}
 use Rattle.branch.specs.State.{ownRun}
 use Rattle.branch.proofs.FromScoped.{own-ready}
-use Rattle.running.specs.Turns.{Taken, requestOf, Midway, TurnGives, TurnGives.turns-on, TurnGives.turns-over, unitsOf, turnBy}
+use Rattle.running.specs.Turns.{answerDue, Taken, requestOf, Midway, TurnGives, TurnGives.turns-on, TurnGives.turns-over, unitsOf, turnBy}
 use Rattle.running.proofs.HandLaws.{InHand, hand}
+
+-- WHETHER AN ANSWER IS DUE
+module _ (r : Regs) where
+  pub due-hand : (t : Bool) → r .solving ≡ true → t ≡ eqb (r .cell) 0 → t ≡ answerDue r
+  unfolding answerDue
+  due-hand t s e = rw (answerDue, s) e
+
+  pub due-back : r .solving ≡ false → false ≡ answerDue r
+  unfolding answerDue
+  due-back s = rw (answerDue, s) refl
+
+  pub due-yes : (t : Bool) → t ≡ answerDue r → t ≡ true → (r .solving ≡ true) × (r .cell ≡ 0)
+  unfolding answerDue
+  due-yes t e d = go (r .solving) refl
+    where
+      go : (b : Bool) → r .solving ≡ b → (r .solving ≡ true) × (r .cell ≡ 0)
+      go true s = let z : (true && eqb (r .cell) 0) ≡ true = ap (λ (b : Bool). b && eqb (r .cell) 0) (sym s) ∙ sym e ∙ d in (s, eqb-true (r .cell) 0 z)
+      go false s = let z : _≡_ {A = Bool} false true = ap (λ (b : Bool). b && eqb (r .cell) 0) (sym s) ∙ sym e ∙ d in let w : _≡_ {A = ℕ} 0 1 = cc in absurd (omega arith)
+
+  pub due-no : answerDue r ≡ false → r .solving ≡ true → 0 < r .cell
+  unfolding answerDue
+  due-no e s = let z : eqb (r .cell) 0 ≡ false = ap (λ (b : Bool). b && eqb (r .cell) 0) (sym s) ∙ e in let n = eqb-false (r .cell) 0 z in omega arith
+
+-- a goal is to be taken, and the budget is spent
+pub goal-spent : {book ws : List ℕ} {r : Regs} {left : ℕ} → r .solving ≡ true → left ≡ 0 → ReachContract book ws ws r left (Done (Finished (Stopped Budget) 0))
+goal-spent s z threads Z =
+    let H = hand Z s in
+    reach-done (steps-end {e = Stopped Budget} {used = 0} (omega arith) refl
+    (λ q y ls. rw (z, H .is) (unit-none q _ (H .rest) y ls) ∙ ap (λ (t : Tally). record { ending = Stopped Budget; tally = t; lines = ls }) (none-spent y)))
+
+-- THE STEP: what was reached, and going on from it
+module _ {book ws ws₁ ws₂ : List ℕ} {r : Regs} {left : ℕ} {o : Reached} {s : Stepped} where
+  pub step-whole : ReachContract book ws ws₁ r left o → GoesOn book ws₁ ws₂ left o s → StepContract book ws ws₂ r left s
+  step-whole R G threads Z = G ws r threads (R threads Z)
 
 -- the units of a step are within what is left
 units-most : {book ws ws′ : List ℕ} {r : Regs} {left : ℕ} {threads : List Thread} {o : Stepped} → StepGives book ws ws′ r left threads o → unitsOf o ≤ left

@@ -1,8 +1,9 @@
 -- The run, one turn after another: what the code keeps between two turns, and what a turn gives.
 use mathlib.Core.Path.{_≡_}
-use mathlib.Core.Bool.{Bool, true, false}
+use mathlib.Core.Bool.{Bool, true, false, _&&_}
 use mathlib.Core.List.{List, [], _∷_}
 use Prim.Native.Nat.{ℕ, suc, _+_, _-_, _*_, _/_, _≤_, _<_}
+use lib.Dec.{eqb}
 use lib.ListN.{length}
 use Rattle.book.specs.Records.{field, lastRecord}
 use Rattle.book.proofs.Accepted.{Accepted}
@@ -59,6 +60,10 @@ pub data TurnGives (book : List ℕ) (unknowns wanted size budget : ℕ) (ws′ 
       → TurnGives book unknowns wanted size budget ws′ out′ r y whole (On r′ y′ end′)
   turns-over : {e : Ending} {y′ : Tally} → whole .ending ≡ e → whole .tally ≡ y′ → out′ ≡ filledBuffer size (whole .lines)
       → TurnGives book unknowns wanted size budget ws′ out′ r y whole (Over e y′)
+
+-- the list of goals of the branch in hand is empty
+unfoldable pub answerDue : Regs → Bool
+answerDue r = r .solving && eqb (r .cell) 0
 
 -- one unit and one answer more on a tally
 unfoldable pub oneMore : Tally → Bool → Tally

@@ -10,11 +10,15 @@ ghost use Rattle.machine.specs.Call.{noCounts, runOf, filledBuffer};
 ghost use Rattle.steps.specs.Search.{Stands, spentUnits};
 ghost use Rattle.branch.specs.Seeking.{OwnIndexed};
 ghost use Rattle.answers.specs.Numbers.{NoNumbers};
-ghost use Rattle.running.specs.Turns.{Taken, Midway, TurnGives, oneMore, leftBehind, unitsOf, turnBy};
+ghost use Rattle.book.proofs.Accepted.{Accepted};
+ghost use Rattle.machine.specs.Machine.{Thread};
+ghost use Rattle.returning.specs.Reaching.{ReachContract};
+ghost use Rattle.running.specs.Turns.{answerDue, Taken, Midway, TurnGives, oneMore, leftBehind, unitsOf, turnBy};
 use answers::Answered;
 use machine::Ending;
 use machine::Limit;
 use machine::Tally;
+use returning::Reached;
 use steps::Regs;
 use steps::Stepped;
 
@@ -120,7 +124,34 @@ fn answer(
     }
 }
 
-// One turn: go back; or, with a branch in hand, an answer or the next goal. A unit is done only if the budget has one left.
+// Whether an answer is due: the list of goals of the branch in hand is empty.
+fn answer_due(r: Regs) -> bool
+    ensures { λ t. ⌜ t ≡ answerDue r ⌝ }
+{
+    if r.solving {
+        return r.cell == 0;
+    }
+    false
+}
+
+// Goes back; or, with a branch in hand, takes its next goal, if the budget has a unit left.
+fn reach(book: &[u8], ws: &mut [u32], r: Regs, left: u32) -> Reached
+    requires { ⌜ Accepted (now book) × OwnIndexed (now book) (now ws) ⌝ }
+    requires { ⌜ answerDue r ≡ false ⌝ }
+    requires { ⌜ ((threads : List Thread) × Stands (now book) (now ws) r threads) ⌝ }
+    ensures { λ o. ⌜ ReachContract (now (book .entry)) (now (ws .entry)) (now (ws .exit)) r left o ⌝ }
+{
+    if !r.solving {
+        return returning::back(book, ws, r, left);
+    }
+    if left == 0 {
+        return Reached::Done(Stepped::Finished(Ending::Stopped(Limit::Budget), 0));
+    }
+    taking::take(book, ws, r, left)
+}
+
+// One turn: an answer; or a step, which goes back or takes the next goal, and tries the candidate to which that leads. A unit is done only if the budget
+// has one left.
 fn turn(
     book: &[u8],
     ws: &mut [u32],
@@ -138,18 +169,15 @@ fn turn(
         → TurnGives (now (book .entry)) unknowns wanted (length (now (out .entry))) budget (now (ws .exit)) (now (out .exit)) r y whole o) ⌝ }
 {
     let left = budget - y.units;
-    if !r.solving {
-        let b = returning::back(book, ws, r, left);
-        return step_taken(y, end, b);
-    }
-    if left == 0 {
-        return Turned::Over(Ending::Stopped(Limit::Budget), y);
-    }
-    if r.cell == 0 {
+    if answer_due(r) {
+        if left == 0 {
+            return Turned::Over(Ending::Stopped(Limit::Budget), y);
+        }
         return answer(book, ws, out, r, y, end, unknowns, wanted, budget);
     }
-    let t = taking::take(book, ws, r, left);
-    step_taken(y, end, t)
+    let o = reach(book, ws, r, left);
+    let s = returning::go_on(book, ws, o, left);
+    step_taken(y, end, s)
 }
 
 // The whole run from the registers of the start, with the answer buffer all zero and nothing counted yet.

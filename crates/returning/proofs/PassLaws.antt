@@ -33,13 +33,11 @@ use Rattle.steps.specs.declared.Stepped.the-variants.{Onward, Finished}
 use Rattle.steps.specs.Search.{runOn, spentUnits, phase, Stands.going-back, StepGives, StepGives.steps-on, StepGives.steps-end}
 use Rattle.steps.proofs.ReadyLaws.{has-atom}
 use Rattle.steps.proofs.LeaveLaws.{leaves-none}
-use Rattle.returning.specs.declared.Pass.{Pass}
-use Rattle.returning.specs.declared.Pass.the-variants.{Stay, Onto, Gone}
 use Rattle.returning.specs.declared.Passed.{Passed}
 use Rattle.returning.specs.declared.Passed.the-variants.{Next, Through}
 use Rattle.returning.specs.Returns.{Again, Candidates, atomOf, ToClause}
-use Rattle.returning.specs.Reentry.{moved}
-use Rattle.returning.specs.Passing.{firstArgument, FirstIs, Clashes, Passes, OnePass, OnePass.stays, OnePass.moves, OnePass.gone, PassGives, PassGives.comes, PassGives.ends, regsGone, unitsOf, laterBy}
+use Rattle.returning.specs.Reentry.{placeOf, moved}
+use Rattle.returning.specs.Passing.{firstArgument, FirstIs, Clashes, Passes, NextIs, OnePass, OnePass.moves, OnePass.gone, PassGives, PassGives.comes, PassGives.ends, regsGone, unitsOf, laterBy}
 use Rattle.returning.proofs.RenewLaws.{atom-record, atom-base, standing, here}
 use Rattle.returning.proofs.CandidateLaws.{clauseNow, clause-now, can-enter, none-spent, no-budget}
 use Rattle.returning.proofs.ClashLaws.{first-ready, first-good, pass-units}
@@ -122,23 +120,19 @@ module _ (book : List ℕ) (R : Readable book) (A : Accepted book) (ws : List �
             (F .large, term-inside, room),
           )
 
-      module _ (C : Clashes book (x .made) w c) (a f m : ℕ) (ae : a ≡ x .atom / 4096 - 1) (fe : f ≡ field book a 1) (me : m ≡ field book a 2) (o : Candidate)
-          (says : (rest : List Force) → IsRest book ws (x .made) (x .programs) (x .node) (x .index + 1) rest → Sought book ws (x .made) (x .programs) f m rest o) where
+      module _ (C : Clashes book (x .made) w c) where
         abbrev left-over : List Thread
         left-over = tryAll (X .b) (atomOf book (X .a) (X .e) (X .program)) (candidates (field book (X .a) 1) (field book (X .a) 2) (X .after)) ++ X .ts
 
         runs : (q : Request) (n : ℕ) (y : Tally) (ls : List Line) → runOn q (suc (suc n)) y ls threads ≡ runOn q n (spentUnits 2 y) ls left-over
         runs = pass-units book R A ws k x threads X w first-here (rw ce at C)
 
-        sought-here : Sought book ws (x .made) (x .programs) (field book (X .a) 1) (field book (X .a) 2) (X .after) o
-        sought-here = here book ws k x threads X a f m ae fe me o says
-
-        pub one-onto : (q i : ℕ) → o ≡ At q i → OnePass book ws k x threads (Onto q i)
+        pub one-pass : (o : Candidate) → NextIs book ws x o → OnePass book ws k x threads o
         unfolding tryAll
-        one-onto q i e = go (rw e at sought-here)
+        one-pass o s = go o (here book ws k x threads X o s)
           where
-            go : Sought book ws (x .made) (x .programs) (field book (X .a) 1) (field book (X .a) 2) (X .after) (At q i) → OnePass book ws k x threads (Onto q i)
-            go (sought {c = g} {after = after} r y z) =
+            go : (o : Candidate) → Sought book ws (x .made) (x .programs) (field book (X .a) 1) (field book (X .a) 2) (X .after) o → OnePass book ws k x threads o
+            go (At q i) (sought {c = g} {after = after} r y z) =
                 moves {q = q} {i = i} {threads′ = entering (X .b) (atomOf book (X .a) (X .e) (X .program)) g (candidates (field book (X .a) 1) (field book (X .a) 2) after) ∷ X .ts}
                 (record {
                   b = X .b;
@@ -164,18 +158,12 @@ module _ (book : List ℕ) (R : Readable book) (A : Accepted book) (ws : List �
                   is = refl;
                 })
                 (λ p n t ls. runs p n t ls ∙ ap (λ (cs : List Force). runOn p n (spentUnits 2 t) ls (tryAll (X .b) (atomOf book (X .a) (X .e) (X .program)) cs ++ X .ts)) z)
-
-        pub one-gone : o ≡ Nothing → OnePass book ws k x threads Gone
-        unfolding tryAll
-        one-gone e = go (rw e at sought-here)
-          where
-            go : Sought book ws (x .made) (x .programs) (field book (X .a) 1) (field book (X .a) 2) (X .after) Nothing → OnePass book ws k x threads Gone
-            go (no-more z) = gone {b = X .b} {ts = X .ts} (X .again) (λ p n t ls. runs p n t ls ∙ ap (λ (cs : List Force). runOn p n (spentUnits 2 t) ls (tryAll (X .b) (atomOf book (X .a) (X .e) (X .program)) cs ++ X .ts)) z)
+            go Nothing (no-more z) = gone {b = X .b} {ts = X .ts} (X .again) (λ p n t ls. runs p n t ls ∙ ap (λ (cs : List Force). runOn p n (spentUnits 2 t) ls (tryAll (X .b) (atomOf book (X .a) (X .e) (X .program)) cs ++ X .ts)) z)
 
 -- THE LOOP
 pub record PassInv (book ws : List ℕ) (k : ℕ) (x : Back) (left w : ℕ) (y : Back) (used : ℕ) : Type 0 where
   pub within : used ≤ left
-  pub first : FirstIs book ws (y .made) (y .atom / 4096 - 1) (y .atom % 4096) w
+  pub first : 4096 ≤ w → FirstIs book ws (y .made) (y .atom / 4096 - 1) (y .atom % 4096) w
   pub some : (threads : List Thread) × ToClause book ws k y threads
   pub passes : (threads : List Thread) → ToClause book ws k x threads → (threads′ : List Thread) × ToClause book ws k y threads′ × Passes left used threads threads′
 
@@ -193,38 +181,37 @@ two-more left used ts us vs h P u q y ls =
     P q y ls ∙ ap (λ (n : ℕ). runOn q n (spentUnits used y) ls us) a ∙ u q (left - (used + 2)) (spentUnits used y) ls ∙ ap (λ (t : Tally). runOn q (left - (used + 2)) t ls vs) (spent-two used y)
 
 module _ {book ws : List ℕ} {k : ℕ} {x : Back} {left w : ℕ} where
-  pub inv-start : FirstIs book ws (x .made) (x .atom / 4096 - 1) (x .atom % 4096) w → (threads : List Thread) × ToClause book ws k x threads → PassInv book ws k x left w x 0
+  pub inv-start : (4096 ≤ w → FirstIs book ws (x .made) (x .atom / 4096 - 1) (x .atom % 4096) w) → (threads : List Thread) × ToClause book ws k x threads → PassInv book ws k x left w x 0
   inv-start F S = record { within = omega arith; first = F; some = S; passes = λ ts X. (ts, X, pass-none left ts) }
 
-  pub inv-more : (y : Back) (used q i : ℕ) (o : Pass) (y′ : Back) → PassInv book ws k x left w y used → 1 < left - used
-      → ((threads : List Thread) → ToClause book ws k y threads → OnePass book ws k y threads o) → o ≡ Onto q i → y′ ≡ moved y q i → PassInv book ws k x left w y′ (used + 2)
-  inv-more y used q i o y′ I h P e d = rw d (record {
-    within = omega (arith, I .within);
-    first = I .first;
-    some = let s = onto (I .some .0) (P (I .some .0) (I .some .1)) e in (s .0, s .1);
-    passes = λ ts X. let p = I .passes ts X in let s = onto (p .0) (P (p .0) (p .1)) e in (s .0, s .1, two-more left used ts (p .0) (s .0) h (p .2) (s .2));
-  })
-    where
-      onto : {o : Pass} (ts : List Thread) → OnePass book ws k y ts o → o ≡ Onto q i
-          → (us : List Thread) × ToClause book ws k (moved y q i) us × ((r : Request) (n : ℕ) (t : Tally) (ls : List Line) → runOn r (suc (suc n)) t ls ts ≡ runOn r n (spentUnits 2 t) ls us)
-      onto ts (moves {q = a} {i = b} {threads′ = us} Y u) e = let v : a ≡ q = cc in let z : b ≡ i = cc in (us, rw (v, z) at Y, u)
-      onto ts stays e = let z : _≡_ {A = ℕ} 0 1 = cc in absurd (omega arith)
-      onto ts (gone G u) e = let z : _≡_ {A = ℕ} 0 1 = cc in absurd (omega arith)
+  pub inv-next : (y : Back) (used : ℕ) (o : Candidate) → PassInv book ws k x left w y used → NextIs book ws y o → (threads : List Thread) → ToClause book ws k x threads → PassGives book ws k x left threads (Next y o used)
+  inv-next y used o I N ts X = let p = I .passes ts X in comes {threads′ = p .0} (I .within) N (p .1) (p .2)
 
-  pub inv-next : (y : Back) (used : ℕ) → PassInv book ws k x left w y used → (threads : List Thread) → ToClause book ws k x threads → PassGives book ws k x left threads (Next y used)
-  inv-next y used I ts X = let p = I .passes ts X in comes {threads′ = p .0} (I .within) (p .1) (p .2)
+  -- the candidate y clashes, and the one after it is o
+  module _ (R : Readable book) (A : Accepted book) (y : Back) (used : ℕ) (I : PassInv book ws k x left w y used) (h : 1 < left - used) (c : ℕ) (ce : c ≡ placeOf book ws (y .node) (y .index) .clause)
+      (l : 4096 ≤ w) (C : Clashes book (y .made) w c) (o : Candidate) (N : NextIs book ws y o) where
+    one : (ts : List Thread) → ToClause book ws k y ts → OnePass book ws k y ts o
+    one ts X = one-pass book R A ws k y ts X w (I .first l) c ce (C .room) C o N
 
-  pub inv-gone : (y : Back) (used : ℕ) (o : Pass) → PassInv book ws k x left w y used → 1 < left - used → ((threads : List Thread) → ToClause book ws k y threads → OnePass book ws k y threads o) → o ≡ Gone
-      → (threads : List Thread) → ToClause book ws k x threads → PassGives book ws k x left threads (Through y (used + 2))
-  inv-gone y used o I h P e ts X = let p = I .passes ts X in go (P (p .0) (p .1)) e (p .2)
-    where
-      go : {o : Pass} {us : List Thread} → OnePass book ws k y us o → o ≡ Gone → Passes left used ts us → PassGives book ws k x left ts (Through y (used + 2))
-      go {us = us} (gone {b = b} {ts = vs} G u) e Q = ends {y = y} {used = used + 2} {b = b} {ts = vs} (omega arith) (omega (arith, I .within)) G (two-more left used ts us vs h Q u)
-      go (moves Y u) e Q = let z : _≡_ {A = ℕ} 0 1 = cc in absurd (omega arith)
-      go stays e Q = let z : _≡_ {A = ℕ} 0 1 = cc in absurd (omega arith)
+    pub inv-more : (q i : ℕ) (y′ : Back) → o ≡ At q i → y′ ≡ moved y q i → PassInv book ws k x left w y′ (used + 2)
+    inv-more q i y′ e d = rw d (record {
+      within = omega (arith, I .within);
+      first = I .first;
+      some = let s = onto (I .some .0) (one (I .some .0) (I .some .1)) e in (s .0, s .1);
+      passes = λ ts X. let p = I .passes ts X in let s = onto (p .0) (one (p .0) (p .1)) e in (s .0, s .1, two-more left used ts (p .0) (s .0) h (p .2) (s .2));
+    })
+      where
+        onto : {o : Candidate} (ts : List Thread) → OnePass book ws k y ts o → o ≡ At q i
+            → (us : List Thread) × ToClause book ws k (moved y q i) us × ((r : Request) (n : ℕ) (t : Tally) (ls : List Line) → runOn r (suc (suc n)) t ls ts ≡ runOn r n (spentUnits 2 t) ls us)
+        onto ts (moves {q = a} {i = b} {threads′ = us} Y u) e = let v : a ≡ q = cc in let z : b ≡ i = cc in (us, rw (v, z) at Y, u)
+        onto ts (gone G u) e = let z : _≡_ {A = ℕ} 0 1 = cc in absurd (omega arith)
 
-pub next-none : {book ws : List ℕ} {k : ℕ} {x : Back} (left : ℕ) (ts : List Thread) → ToClause book ws k x ts → PassGives book ws k x left ts (Next x 0)
-next-none {x = x} left ts X = comes {y = x} {used = 0} {threads′ = ts} (omega arith) X (pass-none left ts)
+    pub inv-gone : o ≡ Nothing → (threads : List Thread) → ToClause book ws k x threads → PassGives book ws k x left threads (Through y (used + 2))
+    inv-gone e ts X = let p = I .passes ts X in go (one (p .0) (p .1)) e (p .2)
+      where
+        go : {o : Candidate} {us : List Thread} → OnePass book ws k y us o → o ≡ Nothing → Passes left used ts us → PassGives book ws k x left ts (Through y (used + 2))
+        go {us = us} (gone {b = b} {ts = vs} G u) e Q = ends {y = y} {used = used + 2} {b = b} {ts = vs} (omega arith) (omega (arith, I .within)) G (two-more left used ts us vs h Q u)
+        go (moves Y u) e Q = let z : _≡_ {A = ℕ} 0 1 = cc in absurd (omega arith)
 
 -- A STEP AFTER IT
 spent-both : (used n : ℕ) (y : Tally) → spentUnits n (spentUnits used y) ≡ spentUnits (used + n) y
@@ -243,28 +230,32 @@ after-pass {left = left} {used = used} {threads′ = us} h f P (steps-end {e = x
     steps-end {e = x} {used = used + n} (omega arith) b
     (λ q y ls. P q y ls ∙ e q (spentUnits used y) ls ∙ ap (λ (t : Tally). record { ending = x; tally = t; lines = ls }) (spent-both used n y))
 
-came-to : {book ws : List ℕ} {k : ℕ} {x : Back} {left : ℕ} {threads : List Thread} {o : Passed} (y : Back) (used : ℕ) → PassGives book ws k x left threads o → o ≡ Next y used
-    → (used ≤ left) × ((threads′ : List Thread) × ToClause book ws k y threads′ × Passes left used threads threads′)
-came-to y used (comes {y = a} {used = b} {threads′ = us} h Y P) e = let v : a ≡ y = cc in let w : b ≡ used = cc in (rw (← w) h, (us, rw v at Y, rw w at P))
-came-to y used (ends a b G P) e = let z : _≡_ {A = ℕ} 0 1 = cc in absurd (omega arith)
+came-to : {book ws : List ℕ} {k : ℕ} {x : Back} {left : ℕ} {threads : List Thread} {p : Passed} (y : Back) (o : Candidate) (used : ℕ) → PassGives book ws k x left threads p → p ≡ Next y o used
+    → (used ≤ left) × ((threads′ : List Thread) × ToClause book ws k y threads′ × Passes left used threads threads′) × NextIs book ws y o
+came-to y o used (comes {y = a} {o = d} {used = b} {threads′ = us} h N Y P) e =
+    let v : a ≡ y = cc in
+    let w : b ≡ used = cc in
+    let z : d ≡ o = cc in
+    (rw (← w) h, (us, rw v at Y, rw w at P), rw (v, z) at N)
+came-to y o used (ends a b G P) e = let z : _≡_ {A = ℕ} 0 1 = cc in absurd (omega arith)
 
 module _ (book : List ℕ) (R : Readable book) (A : Accepted book) (ws : List ℕ) (k : ℕ) (x : Back) (left : ℕ) (o : Passed)
     (P : (threads : List Thread) → ToClause book ws k x threads → PassGives book ws k x left threads o) where
-  module _ (y : Back) (used : ℕ) (e : o ≡ Next y used) where
-    pub pass-some : (threads : List Thread) × ToClause book ws k x threads → (used ≤ left) × ((threads : List Thread) × ToClause book ws k y threads)
-    pass-some s = let p = came-to y used (P (s .0) (s .1)) e in (p .0, (p .1 .0, p .1 .1))
+  module _ (y : Back) (next : Candidate) (used : ℕ) (e : o ≡ Next y next used) where
+    pub pass-some : (threads : List Thread) × ToClause book ws k x threads → (used ≤ left) × ((threads : List Thread) × ToClause book ws k y threads) × NextIs book ws y next
+    pass-some s = let p = came-to y next used (P (s .0) (s .1)) e in (p .0, (p .1 .0, p .1 .1), p .2)
 
     pub pass-budget : (r : Regs) → left ≤ used → (threads : List Thread) → ToClause book ws k x threads → StepGives book ws ws r left threads (Finished (StoppedEnding Budget) used)
     unfolding laterBy
     pass-budget r l threads X =
-        let p = came-to y used (P threads X) e in
+        let p = came-to y next used (P threads X) e in
         let z : used + 0 ≡ used = omega arith in
         let S = after-pass {r = r} {r₀ = r} (p .0) (omega arith) (p .1 .2) (no-budget book R A ws k y (p .1 .0) (p .1 .1) r (left - used) (omega arith)) in
         rw z at S
 
     pub pass-next : (r : Regs) (ws′ : List ℕ) (s t : Stepped) → ((threads : List Thread) → ToClause book ws k y threads → StepGives book ws ws′ r (left - used) threads s) → t ≡ laterBy used s
         → (threads : List Thread) → ToClause book ws k x threads → StepGives book ws ws′ r left threads t
-    pass-next r ws′ s t T d threads X = let p = came-to y used (P threads X) e in rw d (after-pass {r₀ = r} (p .0) (omega arith) (p .1 .2) (T (p .1 .0) (p .1 .1)))
+    pass-next r ws′ s t T d threads X = let p = came-to y next used (P threads X) e in rw d (after-pass {r₀ = r} (p .0) (omega arith) (p .1 .2) (T (p .1 .0) (p .1 .1)))
 
   pub pass-through : (y : Back) (used : ℕ) → o ≡ Through y used → (r g : Regs) → r .solving ≡ false → g ≡ regsGone y k → (threads : List Thread) → ToClause book ws k x threads → StepGives book ws ws r left threads (Onward g used)
   pass-through y used e r g s d threads X = rw d (go (P threads X) e)
@@ -274,9 +265,12 @@ module _ (book : List ℕ) (R : Readable book) (A : Accepted book) (ws : List �
           let v : a ≡ y = cc in let w : b ≡ used = cc in
           let G′ = rw v at G in
           steps-on {r′ = regsGone y k} {used = used} {threads′ = ts} (omega (arith, l, w)) (rw s (omega (arith, h, w))) (leaves-none ws) (going-back refl (G′ .sound) (G′ .waiting)) (rw w at Q)
-      go (comes h Y Q) e = let z : _≡_ {A = ℕ} 0 1 = cc in absurd (omega arith)
+      go (comes h N Y Q) e = let z : _≡_ {A = ℕ} 0 1 = cc in absurd (omega arith)
 
 -- the units of a step are within what is left
 pub units-most : {book ws ws′ : List ℕ} {r : Regs} {left : ℕ} {threads : List Thread} {s : Stepped} → StepGives book ws ws′ r left threads s → unitsOf s ≤ left
 units-most (steps-on a b c d e) = a
 units-most (steps-end a b c) = a
+
+pub never {ℓ} : {X : Type ℓ} → _≡_ {A = Bool} false true → X
+never e = let z : _≡_ {A = ℕ} 0 1 = cc in absurd (omega arith)

@@ -22,6 +22,7 @@ use Rattle.branch.proofs.KeepLaws.{kept-0, kept-1, kept-2, kept-3, kept-4, kept
 use Rattle.steps.proofs.LeaveLaws.{leaves-none, leaves-kept}
 use Rattle.returning.specs.Returns.{topsAt, atomOf, ToClause}
 use Rattle.returning.specs.Reentry.{moved, Renewed}
+use Rattle.returning.specs.Passing.{NextIs}
 
 -- a program of a place is below the top
 pub rest-below : {book ws : List ℕ} {made top p i : ℕ} {l : List Force} → 1 ≤ top → IsRest book ws made top p i l → p < top
@@ -124,16 +125,6 @@ module _ (book : List ℕ) (ws : List ℕ) (k : ℕ) (x : Back) (threads : List 
 
   -- WHAT THE SEARCH SAYS
   module _ (a f m : ℕ) (ae : a ≡ x .atom / 4096 - 1) (fe : f ≡ field book a 1) (me : m ≡ field book a 2) where
-    abbrev Says : Candidate → Type 0
-    Says o = (rest : List Force) → IsRest book ws (x .made) (x .programs) (x .node) (x .index + 1) rest → Sought book ws (x .made) (x .programs) f m rest o
-
-    pub here : (o : Candidate) → Says o → Sought book ws (x .made) (x .programs) (field book (X .a) 1) (field book (X .a) 2) (X .after) o
-    here o s =
-        let z : a ≡ X .a = ae ∙ atom-record in
-        let y : f ≡ field book (X .a) 1 = fe ∙ ap (λ (r : ℕ). field book r 1) z in
-        let w : m ≡ field book (X .a) 2 = me ∙ ap (λ (r : ℕ). field book r 2) z in
-        rw (← y, ← w) (s (X .after) standing)
-
     pub candidate-here : IsCandidate book ws (x .made) (x .programs) (x .node) (x .index) f m
     candidate-here =
         let z : a ≡ X .a = ae ∙ atom-record in
@@ -141,20 +132,27 @@ module _ (book : List ℕ) (ws : List ℕ) (k : ℕ) (x : Back) (threads : List 
         let w : m ≡ field book (X .a) 2 = me ∙ ap (λ (r : ℕ). field book r 2) z in
         record { c = X .f; after = X .after; clause = X .with .clause; first = rw (y, w) (X .with .first) }
 
-    pub keep-ready : (o : Candidate) (q i : ℕ) → Says o → o ≡ At q i → Small q
-    keep-ready o q i s e = go (rw e at (here o s))
+    pub next-is : (o : Candidate) → ((rest : List Force) → IsRest book ws (x .made) (x .programs) (x .node) (x .index + 1) rest → Sought book ws (x .made) (x .programs) f m rest o) → NextIs book ws x o
+    next-is o s = rw (fe, me, ae) at s
+
+  module _ (o : Candidate) (s : NextIs book ws x o) where
+    pub here : Sought book ws (x .made) (x .programs) (field book (X .a) 1) (field book (X .a) 2) (X .after) o
+    here = rw atom-record at (s (X .after) standing)
+
+    pub keep-ready : (q i : ℕ) → o ≡ At q i → Small q
+    keep-ready q i e = go (rw e at here)
       where
         go : Sought book ws (x .made) (x .programs) (field book (X .a) 1) (field book (X .a) 2) (X .after) (At q i) → Small q
         go (sought r y z) = keep-small q (r .0)
 
-    pub renewed : (o : Candidate) (q i : ℕ) (ws′ : List ℕ) → Says o → o ≡ At q i → ws′ ≡ keepWords ws k (moved x q i) → Renewed book ws ws′ k x threads X (k + 1)
-    renewed o q i ws′ s e d = rw d (go (rw e at (here o s)))
+    pub renewed : (q i : ℕ) (y : Back) (ws′ : List ℕ) → o ≡ At q i → y ≡ moved x q i → ws′ ≡ keepWords ws k y → Renewed book ws ws′ k x threads X (k + 1)
+    renewed q i y ws′ e ye d = rw (d, ye) (go (rw e at here))
       where
         go : Sought book ws (x .made) (x .programs) (field book (X .a) 1) (field book (X .a) 2) (X .after) (At q i) → Renewed book ws (keepWords ws k (moved x q i)) k x threads X (k + 1)
         go (sought {c = c} {after = after} r y z) = renew-keeps q i c after r y z
 
-    pub dropped : (o : Candidate) → Says o → o ≡ Nothing → Renewed book ws ws k x threads X k
-    dropped o s e = go (rw e at (here o s))
+    pub dropped : o ≡ Nothing → Renewed book ws ws k x threads X k
+    dropped e = go (rw e at here)
       where
         go : Sought book ws (x .made) (x .programs) (field book (X .a) 1) (field book (X .a) 2) (X .after) Nothing → Renewed book ws ws k x threads X k
         go (no-more z) = renew-drops z

@@ -3,22 +3,24 @@
 use mathlib.Core.Path.{_≡_}
 use mathlib.Core.Bool.{Bool, true, false, _&&_}
 use mathlib.Core.List.{List, _∷_}
-use Prim.Native.Nat.{ℕ, suc, _+_, _-_, _≤_, _<_}
+use Prim.Native.Nat.{ℕ, suc, _+_, _-_, _/_, _≤_, _<_}
 use lib.Dec.{eqb}
 use Rattle.book.specs.Records.{field}
 use Rattle.machine.specs.declared.Tally.{Tally}
-use Rattle.machine.specs.Machine.{Thread, Branch}
+use Rattle.machine.specs.Machine.{Thread, Branch, Force}
 use Rattle.machine.specs.Answers.{Line}
 use Rattle.machine.specs.Run.{Request}
 use Rattle.words.specs.Words.{wordFor, symW, recOf}
 use Rattle.words.specs.Good.{ReadThrough}
 use Rattle.branch.specs.declared.Back.{Back}
+use Rattle.branch.specs.declared.Candidate.{Candidate}
+use Rattle.branch.specs.declared.Candidate.the-variants.{At, Nothing}
+use Rattle.branch.specs.State.{IsRest}
+use Rattle.branch.specs.Seeking.{Sought}
 use Rattle.steps.specs.Search.{runOn, spentUnits}
 use Rattle.steps.specs.declared.Regs.{Regs}
 use Rattle.steps.specs.declared.Stepped.{Stepped}
 use Rattle.steps.specs.declared.Stepped.the-variants.{Onward, Finished}
-use Rattle.returning.specs.declared.Pass.{Pass}
-use Rattle.returning.specs.declared.Pass.the-variants.{Stay, Onto, Gone}
 use Rattle.returning.specs.declared.Passed.{Passed}
 use Rattle.returning.specs.declared.Passed.the-variants.{Next, Through}
 use Rattle.returning.specs.Returns.{Again, ToClause}
@@ -44,17 +46,22 @@ pub record Clashes (book : List ℕ) (made w c : ℕ) : Type 0 where
 abbrev pub Passes : ℕ → ℕ → List Thread → List Thread → Type 0
 Passes left used threads threads′ = (q : Request) (y : Tally) (ls : List Line) → runOn q left y ls threads ≡ runOn q (left - used) (spentUnits used y) ls threads′
 
--- one candidate is passed over, onto the next one or none; or it stays
-pub data OnePass (book ws : List ℕ) (k : ℕ) (x : Back) (threads : List Thread) : Pass → Type 0 where
-  stays : OnePass book ws k x threads Stay
-  moves : {q i : ℕ} {threads′ : List Thread} → ToClause book ws k (moved x q i) threads′
-      → ((r : Request) (n : ℕ) (y : Tally) (ls : List Line) → runOn r (suc (suc n)) y ls threads ≡ runOn r n (spentUnits 2 y) ls threads′) → OnePass book ws k x threads (Onto q i)
-  gone : {b : Branch} {ts : List Thread} → Again book ws k x b ts
-      → ((r : Request) (n : ℕ) (y : Tally) (ls : List Line) → runOn r (suc (suc n)) y ls threads ≡ runOn r n (spentUnits 2 y) ls ts) → OnePass book ws k x threads Gone
+-- the candidate after the next one
+abbrev pub NextIs : List ℕ → List ℕ → Back → Candidate → Type 0
+NextIs book ws x o = (rest : List Force) → IsRest book ws (x .made) (x .programs) (x .node) (x .index + 1) rest
+    → Sought book ws (x .made) (x .programs) (field book (x .atom / 4096 - 1) 1) (field book (x .atom / 4096 - 1) 2) rest o
 
--- all that clash are passed over, with so many units: the candidate that is next; or there is none left
+-- one candidate is passed over, onto the one after it or none
+pub data OnePass (book ws : List ℕ) (k : ℕ) (x : Back) (threads : List Thread) : Candidate → Type 0 where
+  moves : {q i : ℕ} {threads′ : List Thread} → ToClause book ws k (moved x q i) threads′
+      → ((r : Request) (n : ℕ) (y : Tally) (ls : List Line) → runOn r (suc (suc n)) y ls threads ≡ runOn r n (spentUnits 2 y) ls threads′) → OnePass book ws k x threads (At q i)
+  gone : {b : Branch} {ts : List Thread} → Again book ws k x b ts
+      → ((r : Request) (n : ℕ) (y : Tally) (ls : List Line) → runOn r (suc (suc n)) y ls threads ≡ runOn r n (spentUnits 2 y) ls ts) → OnePass book ws k x threads Nothing
+
+-- all that clash are passed over, with so many units: the candidate that is next, and the one after it; or there is none left
 pub data PassGives (book ws : List ℕ) (k : ℕ) (x : Back) (left : ℕ) (threads : List Thread) : Passed → Type 0 where
-  comes : {y : Back} {used : ℕ} {threads′ : List Thread} → used ≤ left → ToClause book ws k y threads′ → Passes left used threads threads′ → PassGives book ws k x left threads (Next y used)
+  comes : {y : Back} {o : Candidate} {used : ℕ} {threads′ : List Thread} → used ≤ left → NextIs book ws y o → ToClause book ws k y threads′ → Passes left used threads threads′
+      → PassGives book ws k x left threads (Next y o used)
   ends : {y : Back} {used : ℕ} {b : Branch} {ts : List Thread} → 0 < used → used ≤ left → Again book ws k y b ts → Passes left used threads ts → PassGives book ws k x left threads (Through y used)
 
 -- the registers for going back from an alternative that has no candidate left

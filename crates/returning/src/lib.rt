@@ -14,7 +14,7 @@ ghost use Rattle.steps.specs.Search.{Stands};
 ghost use Rattle.returning.specs.Returns.{Leads, ToClause};
 ghost use Rattle.returning.specs.Reentry.{placeOf, moved, Renewed, bodyWords, frontOf, regsAgain, outcomeOf, Tries};
 ghost use Rattle.returning.specs.Reaching.{ReachContract, CanGoOn, GoesOn};
-ghost use Rattle.returning.specs.Passing.{firstArgument, FirstIs, Clashes, OnePass, PassGives, regsGone, unitsOf, laterBy};
+ghost use Rattle.returning.specs.Passing.{firstArgument, FirstIs, Clashes, NextIs, PassGives, regsGone, unitsOf, laterBy};
 use branch::Back;
 use branch::Candidate;
 use machine::Ending;
@@ -61,36 +61,34 @@ fn place(book: &[u8], ws: &[u32], x: Back) -> InForce
     }
 }
 
-// Keeps alternative k for the candidates after the next one, if there are any: how many alternatives there are now.
-fn renew(book: &[u8], ws: &mut [u32], k: u32, x: Back) -> u32
-    requires { ⌜ Readable (now book) ⌝ }
-    requires { ⌜ Accepted (now book) × OwnIndexed (now book) (now ws) ⌝ }
+// The numbers of an alternative with another candidate.
+fn at_place(x: Back, q: u32, i: u32) -> Back
+    ensures { λ y. ⌜ y ≡ moved x q i ⌝ }
+{
+    Back {
+        made: x.made,
+        trail: x.trail,
+        cells: x.cells,
+        programs: x.programs,
+        cell: x.cell,
+        taken: x.taken,
+        supposed: x.supposed,
+        atom: x.atom,
+        call: x.call,
+        node: q,
+        index: i,
+    }
+}
+
+// Keeps alternative k for the candidates from `next` on, if there are any: how many alternatives there are now.
+fn renew(book: &[u8], ws: &mut [u32], k: u32, x: Back, next: Candidate) -> u32
+    requires { ⌜ NextIs (now book) (now ws) x next ⌝ }
     requires { ⌜ ((threads : List Thread) × ToClause (now book) (now ws) k x threads) ⌝ }
     ensures { λ n. ⌜ ((threads : List Thread) (X : ToClause (now (book .entry)) (now (ws .entry)) k x threads) → Renewed (now (book .entry)) (now (ws .entry)) (now (ws .exit)) k x threads X n) ⌝ }
 {
-    let a = x.atom / 4096 - 1;
-    let f = words::field(book, a, 1);
-    let m = words::field(book, a, 2);
-    let next = branch::seek_after(book, x.made, ws, x.programs, x.node, x.index, f, m);
     match next {
         Candidate::At(q, i) => {
-            branch::keep(
-                ws,
-                k,
-                Back {
-                    made: x.made,
-                    trail: x.trail,
-                    cells: x.cells,
-                    programs: x.programs,
-                    cell: x.cell,
-                    taken: x.taken,
-                    supposed: x.supposed,
-                    atom: x.atom,
-                    call: x.call,
-                    node: q,
-                    index: i,
-                },
-            );
+            branch::keep(ws, k, at_place(x, q, i));
             k + 1
         }
         Candidate::Nothing => k,
@@ -159,16 +157,9 @@ fn outcome(x: Back, made: u32, n: u32, l: Front, u: Unified) -> Stepped
     }
 }
 
-// Passing over one candidate: it stays; the next one, by program and number, is there; or there is none left.
-pub enum Pass {
-    Stay,
-    Onto(u32, u32),
-    Gone,
-}
-
-// Passing over candidates: the numbers with the next one; or there is none left. With the units that it took.
+// Passing over candidates: the numbers with the one that is tried next, and the candidate after it; or there is none left. With the units that it took.
 pub enum Passed {
-    Next(Back, u32),
+    Next(Back, Candidate, u32),
     Through(Back, u32),
 }
 
@@ -210,47 +201,35 @@ fn clashes(book: &[u8], c: u32, w: u32, made: u32) -> bool
     words::field(book, r, 2) != words::field(book, u, 2)
 }
 
-// Passes over the next candidate, if it clashes at once with the atom, whose first argument is the term of word w.
-fn pass_one(book: &[u8], ws: &[u32], k: u32, x: Back, w: u32) -> Pass
+// Whether the next candidate clashes at once with the atom, whose first argument is the term of word w (below 4096: it is no term).
+fn passes(book: &[u8], ws: &[u32], k: u32, x: Back, w: u32) -> bool
     requires { ⌜ Readable (now book) ⌝ }
-    requires { ⌜ Accepted (now book) × OwnIndexed (now book) (now ws) ⌝ }
-    requires { ⌜ FirstIs (now book) (now ws) (x .made) (x .atom / 4096 - 1) (x .atom % 4096) w ⌝ }
+    requires { ⌜ Accepted (now book) ⌝ }
+    requires { ⌜ (4096 ≤ w → FirstIs (now book) (now ws) (x .made) (x .atom / 4096 - 1) (x .atom % 4096) w) ⌝ }
     requires { ⌜ ((threads : List Thread) × ToClause (now book) (now ws) k x threads) ⌝ }
-    ensures { λ o. ⌜ ((threads : List Thread) → ToClause (now (book .entry)) (now (ws .entry)) k x threads → OnePass (now (book .entry)) (now (ws .entry)) k x threads o) ⌝ }
+    ensures { λ t. ⌜ (t ≡ true → (4096 ≤ w) × Clashes (now (book .entry)) (x .made) w (placeOf (now (book .entry)) (now (ws .entry)) (x .node) (x .index) .clause)) ⌝ }
 {
+    if w < 4096 {
+        return false;
+    }
     let p = place(book, ws, x);
     if 2048 < x.made + words::field(book, p.clause, 1) {
-        return Pass::Stay;
+        return false;
     }
-    if !clashes(book, p.clause, w, x.made) {
-        return Pass::Stay;
-    }
+    clashes(book, p.clause, w, x.made)
+}
+
+// The candidate after the next one.
+fn after_next(book: &[u8], ws: &[u32], k: u32, x: Back) -> Candidate
+    requires { ⌜ Readable (now book) ⌝ }
+    requires { ⌜ Accepted (now book) × OwnIndexed (now book) (now ws) ⌝ }
+    requires { ⌜ ((threads : List Thread) × ToClause (now book) (now ws) k x threads) ⌝ }
+    ensures { λ o. ⌜ NextIs (now (book .entry)) (now (ws .entry)) x o ⌝ }
+{
     let a = x.atom / 4096 - 1;
     let f = words::field(book, a, 1);
     let m = words::field(book, a, 2);
-    match branch::seek_after(book, x.made, ws, x.programs, x.node, x.index, f, m) {
-        Candidate::At(q, i) => Pass::Onto(q, i),
-        Candidate::Nothing => Pass::Gone,
-    }
-}
-
-// The numbers of an alternative with another candidate.
-fn at_place(x: Back, q: u32, i: u32) -> Back
-    ensures { λ y. ⌜ y ≡ moved x q i ⌝ }
-{
-    Back {
-        made: x.made,
-        trail: x.trail,
-        cells: x.cells,
-        programs: x.programs,
-        cell: x.cell,
-        taken: x.taken,
-        supposed: x.supposed,
-        atom: x.atom,
-        call: x.call,
-        node: q,
-        index: i,
-    }
+    branch::seek_after(book, x.made, ws, x.programs, x.node, x.index, f, m)
 }
 
 // Passes over the candidates that clash at once with the atom: each is entered and fails at its first pair, two units.
@@ -261,26 +240,28 @@ fn pass_over(book: &[u8], ws: &[u32], k: u32, x: Back, left: u32) -> Passed
     ensures { λ o. ⌜ ((threads : List Thread) → ToClause (now (book .entry)) (now (ws .entry)) k x threads → PassGives (now (book .entry)) (now (ws .entry)) k x left threads o) ⌝ }
 {
     let w = first_word(book, ws, k, x);
-    if w < 4096 {
-        return Passed::Next(x, 0);
-    }
     let mut y = x;
     let mut used: u32 = 0;
-    while 1 < left - used {
-        match pass_one(book, ws, k, y, w) {
-            Pass::Stay => return Passed::Next(y, used),
-            Pass::Gone => return Passed::Through(y, used + 2),
-            Pass::Onto(q, i) => y = at_place(y, q, i),
+    loop {
+        let next = after_next(book, ws, k, y);
+        if left - used < 2 {
+            return Passed::Next(y, next, used);
+        }
+        if !passes(book, ws, k, y, w) {
+            return Passed::Next(y, next, used);
+        }
+        match next {
+            Candidate::Nothing => return Passed::Through(y, used + 2),
+            Candidate::At(q, i) => y = at_place(y, q, i),
         }
         used += 2;
     }
-    Passed::Next(y, used)
 }
 
-// Enters the next candidate of alternative k.
-fn try_next(book: &[u8], ws: &mut [u32], k: u32, x: Back, left: u32) -> Stepped
+// Enters the next candidate of alternative k; `next` is the one after it.
+fn try_next(book: &[u8], ws: &mut [u32], k: u32, x: Back, next: Candidate, left: u32) -> Stepped
     requires { ⌜ Readable (now book) ⌝ }
-    requires { ⌜ Accepted (now book) × OwnIndexed (now book) (now ws) ⌝ }
+    requires { ⌜ Accepted (now book) × NextIs (now book) (now ws) x next ⌝ }
     requires { ⌜ 0 < left ⌝ }
     requires { ⌜ ((threads : List Thread) × ToClause (now book) (now ws) k x threads) ⌝ }
     ensures { λ o. ⌜ Tries (now (book .entry)) (now (ws .entry)) (now (ws .exit)) k x left o ⌝ }
@@ -290,7 +271,7 @@ fn try_next(book: &[u8], ws: &mut [u32], k: u32, x: Back, left: u32) -> Stepped
     if 2048 < made {
         return Stepped::Finished(Ending::Stopped(Limit::Variables), 0);
     }
-    let n = renew(book, ws, k, x);
+    let n = renew(book, ws, k, x, next);
     let l = put_body(book, ws, p.clause, x);
     let u = steps::enter(
         book,
@@ -344,11 +325,11 @@ fn try_all(book: &[u8], ws: &mut [u32], k: u32, x: Back, left: u32) -> Stepped
 {
     match pass_over(book, ws, k, x, left) {
         Passed::Through(y, used) => Stepped::Onward(given_up(y, k), used),
-        Passed::Next(y, used) => {
+        Passed::Next(y, next, used) => {
             if left <= used {
                 return Stepped::Finished(Ending::Stopped(Limit::Budget), used);
             }
-            let s = try_next(book, ws, k, y, left - used);
+            let s = try_next(book, ws, k, y, next, left - used);
             later(used, s)
         }
     }

@@ -35,7 +35,7 @@ same-length c = search needs
 
 -- src/lib.rt:349:17
 returns : tie.Need-returns
-returns c = λ r threads h X. let p = c .before .before .before .before .before .before .before .before .pre in pass-budget _ (p .0) (p .1 .0 .0) _ _ _ _ _ (c .before .before .before .before .pass-over .ensures) _ _ (c .before .before .y2 .given .1) r (c .if1 .taken) threads X
+returns c = λ r threads h X. let p = c .before .before .before .before .before .before .before .before .pre in pass-budget _ (p .0) (p .1 .0 .0) _ _ _ _ _ (c .before .before .before .before .pass-over .ensures) _ _ _ (c .before .before .y2 .given .1) r (c .if1 .taken) threads X
 
 -- src/lib.rt:351:46
 sub-try-next : tie.Need-sub-try-next
@@ -43,13 +43,13 @@ sub-try-next c = omega (arith, c .before .if1 .left)
 
 -- src/lib.rt:351:17
 try-next-requires : tie.Need-try-next-requires
-try-next-requires c κs = let p = c .before .before .before .before .before .before .before .before .before .pre in let s = pass-some _ (p .0) (p .1 .0 .0) _ _ _ _ _ (c .before .before .before .before .before .pass-over .ensures) _ _ (c .before .before .before .y2 .given .1) (p .1 .1) in (p .0, (p .1 .0, (omega (arith, c .before .if1 .left), s .1)))
+try-next-requires c κs = let p = c .before .before .before .before .before .before .before .before .before .pre in let s = pass-some _ (p .0) (p .1 .0 .0) _ _ _ _ _ (c .before .before .before .before .before .pass-over .ensures) _ _ _ (c .before .before .before .y2 .given .1) (p .1 .1) in (p .0, ((p .1 .0 .0, s .2), (omega (arith, c .before .if1 .left), s .1)))
 
 -- src/lib.rt:352:13
 later-requires : tie.Need-later-requires
 later-requires c κs =
     let p = c .before .before .before .before .before .before .before .before .before .before .before .before .pre in
-    let s = pass-some _ (p .0) (p .1 .0 .0) _ _ _ _ _ (c .before .before .before .before .before .before .before .before .pass-over .ensures) _ _ (c .before .before .before .before .before .before .y2 .given .1) (p .1 .1) in
+    let s = pass-some _ (p .0) (p .1 .0 .0) _ _ _ _ _ (c .before .before .before .before .before .before .before .before .pass-over .ensures) _ _ _ (c .before .before .before .before .before .before .y2 .given .1) (p .1 .1) in
     let h : c .before .before .before .before .before .before .before .before .before .before .before .before .args .left < 4294967296 = search needs in
     let u = units-most (c .before .before .try-next .ensures (regsGone (c .before .before .before .before .before .before .y2 .given .0 .0) 0) (s .1 .0) refl (s .1 .1)) in
     omega (arith, u, s .0, h)
@@ -68,7 +68,7 @@ same-length-3 c = search needs
 
 -- src/lib.rt:338:1
 returns-3 : tie.Need-returns-3
-returns-3 c = λ r threads h X. let p = c .before .before .before .before .before .before .before .before .before .before .before .before .before .pre in pass-next _ (p .0) (p .1 .0 .0) _ _ _ _ _ (c .before .before .before .before .before .before .before .before .before .pass-over .ensures) _ _ (c .before .before .before .before .before .before .before .y2 .given .1) r _ _ _ (λ ts Y. c .before .before .before .try-next .ensures r ts h Y) (c .later .ensures) threads X
+returns-3 c = λ r threads h X. let p = c .before .before .before .before .before .before .before .before .before .before .before .before .before .pre in pass-next _ (p .0) (p .1 .0 .0) _ _ _ _ _ (c .before .before .before .before .before .before .before .before .before .pass-over .ensures) _ _ _ (c .before .before .before .before .before .before .before .y2 .given .1) r _ _ _ (λ ts Y. c .before .before .before .try-next .ensures r ts h Y) (c .later .ensures) threads X
 
 pub try-all-spec : {M : Type 1} → statement M
 try-all-spec =

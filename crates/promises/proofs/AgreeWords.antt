@@ -16,7 +16,8 @@ use Rattle.branch.proofs.go_back.Reads as branch-go-back-reads
 use Rattle.branch.proofs.keep.Reads as branch-keep-reads
 use Rattle.branch.proofs.put_cell.Reads as branch-put-cell-reads
 use Rattle.index.proofs.seek_run.Reads as index-seek-run-reads
-use Rattle.index.proofs.seek_indexed.Reads as index-seek-indexed-reads
+use Rattle.index.proofs.first_match.Reads as index-first-match-reads
+use Rattle.index.proofs.match_after.Reads as index-match-after-reads
 use Rattle.words.proofs.index.Reads as words-index-reads
 use Rattle.words.proofs.field.Reads as words-field-reads
 use Rattle.words.proofs.word_for.Reads as words-word-for-reads
@@ -50,8 +51,11 @@ branch-put-cell κs a r r′ s s′ p q = p ∙ sym q
 pub index-seek-run : (κs : _) (a : _) (r r′ : _) (s s′ : _) → index-seek-run-reads.Post κs a r s → index-seek-run-reads.Post κs a r′ s′ → r ≡ r′
 index-seek-run κs a r r′ s s′ p q = p ∙ sym q
 
-pub index-seek-indexed : (κs : _) (a : _) (r r′ : _) (s s′ : _) → index-seek-indexed-reads.Post κs a r s → index-seek-indexed-reads.Post κs a r′ s′ → r ≡ r′
-index-seek-indexed κs a r r′ s s′ p q = p ∙ sym q
+pub index-first-match : (κs : _) (a : _) (r r′ : _) (s s′ : _) → index-first-match-reads.Post κs a r s → index-first-match-reads.Post κs a r′ s′ → r ≡ r′
+index-first-match κs a r r′ s s′ p q = p ∙ sym q
+
+pub index-match-after : (κs : _) (a : _) (r r′ : _) (s s′ : _) → index-match-after-reads.Post κs a r s → index-match-after-reads.Post κs a r′ s′ → r ≡ r′
+index-match-after κs a r r′ s s′ p q = p ∙ sym q
 
 pub words-index : (κs : _) (a : _) (r r′ : _) (s s′ : _) → words-index-reads.Post κs a r s → words-index-reads.Post κs a r′ s′ → r ≡ r′
 words-index κs a r r′ s s′ p q = p ∙ sym q

@@ -48,12 +48,12 @@ returns-3 : tie.Need-returns-3
 returns-3 c = let p = c .before .before .before .before .before .before .before .before .before .before .before .pre in let q = p .1 .1 in into-none _ _ (p .1 .0 .room) _ _ (q .0) (q .1 .0) (p .0) _ _ _ _ _ (q .1 .1 .0) (q .1 .1 .1) (sym (c .before .before .before .before .before .before .before .before .field .ensures .0) ∙ c .before .before .before .before .before .before .if1 .left ∙ c .before .before .before .before .before .before .before .field2 .ensures .0) (sym (c .before .before .before .before .before .field3 .ensures .0) ∙ c .before .before .before .if2 .left ∙ c .before .before .before .before .field4 .ensures .0) _ (c .before .before .before .before .before .field3 .ensures .0) (c .before .before .if3 .taken) _ (c .pair-past .ensures)
 
 -- src/lib.rt:339:29
-sub-rest : tie.Need-sub-rest
-sub-rest c = search needs
+sub-later : tie.Need-sub-later
+sub-later c = search needs
 
 -- src/lib.rt:339:16
-add-rest : tie.Need-add-rest
-add-rest c = search needs
+add-later : tie.Need-add-later
+add-later c = search needs
 
 -- src/lib.rt:340:14
 add-if4 : tie.Need-add-if4
@@ -180,8 +180,8 @@ pair-into-spec =
     pair-past-requires
     same-length
     returns-3
-    sub-rest
-    add-rest
+    sub-later
+    add-later
     add-if4
     returns-4
     field-requires-5

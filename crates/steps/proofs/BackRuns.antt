@@ -1,7 +1,7 @@
 -- Entering the clause of an alternative, as a part of the run.
-use mathlib.Core.Path.{_≡_, refl, sym, _∙_, ap}
-use mathlib.Core.List.{List, [], _∷_, _++_}
-use Prim.Native.Nat.{ℕ, zero, suc, _+_, _-_, _≤_, _<_}
+use mathlib.Core.Path.{_≡_, refl, _∙_, ap}
+use mathlib.Core.List.{List, _∷_, _++_}
+use Prim.Native.Nat.{ℕ, suc, _+_, _-_}
 use native.Mathlib.Omega.{arith}
 use Rattle.book.specs.Records.{field}
 use Rattle.book.specs.Kinds.{kindAt, clauseKind}
@@ -11,13 +11,11 @@ use Rattle.machine.specs.declared.Ending.the-variants.{Stopped as StoppedEnding
 use Rattle.machine.specs.declared.Tally.{Tally}
 use Rattle.machine.specs.Machine.{Thread, solving, entering, Branch, Force, settle, tryAll}
 use Rattle.machine.specs.Answers.{Line}
-use Rattle.machine.specs.Run.{Request, Result, counted}
+use Rattle.machine.specs.Run.{Request, counted}
 use Rattle.words.specs.Words.{storeOf}
-use Rattle.unifier.specs.declared.How.{How}
 use Rattle.unifier.specs.declared.How.the-variants.{Done, Failed, Stopped}
 use Rattle.unifier.specs.declared.Unified.{Unified}
 use Rattle.unifier.specs.Moves.{Went, withStore}
-use Rattle.unifier.specs.Pairs.{Ends}
 use Rattle.steps.specs.Enters.{headPairs, EnterReady, Enters}
 use Rattle.steps.specs.Search.{runOn, spentUnits}
 use Rattle.steps.proofs.RunLaws.{unit-on, went-run-done, went-run-failed, went-run-stopped}

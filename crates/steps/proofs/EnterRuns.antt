@@ -1,18 +1,17 @@
 -- Entering a clause, as the machine says it.
-use mathlib.Core.Path.{_≡_, refl, sym, _∙_, ap}
-use mathlib.Core.List.{List, [], _∷_, _++_, map}
-use Prim.Native.Nat.{ℕ, zero, suc, _+_, _-_, _≤_, _<_}
+use mathlib.Core.Path.{_≡_, refl, _∙_, ap}
+use mathlib.Core.List.{List, _∷_}
+use Prim.Native.Nat.{ℕ, _+_, _-_}
 use native.Mathlib.Omega.{arith}
 use borrow.Author.Tests.{le-leb}
 use lib.ListN.{length, take, length-map, length-take}
-use Rattle.book.specs.Records.{field, records}
+use Rattle.book.specs.Records.{field}
 use Rattle.book.specs.Kinds.{kindAt, clauseKind}
-use Rattle.book.specs.Tree.{clause, bodyOf, tiesOf, variablesOf, headArguments, headSymbol}
+use Rattle.book.specs.Tree.{clause, bodyOf, tiesOf, variablesOf, headArguments}
 use Rattle.book.specs.Decode.{clauseOf, argumentsOf, tiesFrom}
-use Rattle.book.proofs.Accepted.{Accepted, Formed}
+use Rattle.book.proofs.Accepted.{Formed}
 use Rattle.book.proofs.Unfolding.{clause-of}
-use Rattle.machine.specs.Store.{newEntries}
-use Rattle.machine.specs.Machine.{Thread, entering, Branch, Atom, Force, Moved, on, advance, enter, entered, settle, tryAll, withBodyOf}
+use Rattle.machine.specs.Machine.{entering, Branch, Atom, Force, on, advance, enter, entered, settle, tryAll, withBodyOf}
 use Rattle.words.specs.Words.{entryW, storeOf}
 use Rattle.unifier.specs.declared.Unified.{Unified}
 use Rattle.steps.specs.Enters.{headOf, headPairs, EnterReady, Enters}

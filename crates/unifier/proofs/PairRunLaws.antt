@@ -1,25 +1,21 @@
 -- Pairs of runs of links as a list of pairs.
-use mathlib.Core.Path.{_≡_, refl, sym, _∙_, ap}
-use mathlib.Core.Logic.{inl, inr}
+use mathlib.Core.Path.{_≡_, refl, sym, _∙_}
+use mathlib.Core.Logic.{inr}
 use mathlib.Core.List.{List, [], _∷_}
-use Prim.Native.Nat.{ℕ, zero, suc, _+_, _-_, _*_, _/_, _%_, _≤_, _<_}
+use Prim.Native.Nat.{ℕ, zero, suc, _+_, _-_, _*_, _≤_, _<_}
 use native.Mathlib.Omega.{arith}
 use native.Mathlib.Decide.{decLt}
-use native.Mathlib.Nat.{add-zero}
 use lib.ListN.{length, getD, set, length-set}
 use lib.Seq.{getD-set-same, getD-set-other}
 use Rattle.book.specs.Records.{field}
 use Rattle.book.specs.Decode.{textsFrom, textOf}
-use Rattle.machine.specs.Term.{Pair, pairUp, count, instances, fills}
+use Rattle.machine.specs.Term.{Pair, pairUp, instances, fills}
 use Rattle.words.specs.Words.{baseOf, termOf}
-use Rattle.words.specs.Readable.{Readable}
 use Rattle.words.specs.Frame.{Keeps}
-use Rattle.words.proofs.StackLaws.{run-count, pair-count, keeps-refl, keeps-trans, keeps-set}
+use Rattle.words.proofs.StackLaws.{run-count, pair-count, keeps-trans, keeps-set}
 use Rattle.unifier.specs.declared.ToPair.{ToPair}
-use Rattle.unifier.specs.declared.PairStep.the-variants.{Next, Apart, TooMany}
-use Rattle.unifier.specs.Runs.{runWord, firstOf, countOf, runTerms, GoodRun, TermAt}
-use Rattle.unifier.specs.PairRuns.{pairRun, pairWords, waitingPairs, pairListOf, pastPairs, GoodTwo, Paired, PairPast, PairedInto, PairedInto.paired, PairedInto.overfull}
-use Rattle.unifier.proofs.RunLaws.{first-run, count-run, base-run, run-rest, run-empty, term-run}
+use Rattle.unifier.specs.Runs.{firstOf, countOf, runTerms, GoodRun}
+use Rattle.unifier.specs.PairRuns.{pairRun, pairWords, waitingPairs, pairListOf, pastPairs, GoodTwo, Paired}
 
 -- TWO RUNS
 pub both-next : (book : List ℕ) (b first c other m : ℕ) (l : List Pair) → 0 < m
@@ -50,7 +46,7 @@ twos-same book (suc d) ws ws′ h =
     let z : 15616 + 2 * d + 1 ≡ 15616 + (2 * d + 1) = omega arith in
     rw (z, h (2 * d) (omega arith), h (2 * d + 1) (omega arith), twos-same book d ws ws′ (λ k l. h k (omega arith))) refl
 
-words-length : (book : List ℕ) (x y : ℕ) (l : List Pair) → length (pairWords book x y l) ≡ countOf x + length l
+pub words-length : (book : List ℕ) (x y : ℕ) (l : List Pair) → length (pairWords book x y l) ≡ countOf x + length l
 unfolding pairWords
 words-length book x y l = both-length book (baseOf x) (firstOf x) (baseOf y) (firstOf y) (countOf x) l
 
@@ -61,7 +57,7 @@ twos-most book made ws (suc d) g =
     let i = twos-most book made ws d (λ k l. g k (omega arith)) in
     omega (arith, words-length book (getD ws (15616 + 2 * d) 0) (getD ws (15616 + 2 * d + 1) 0) (waitingPairs book ws d), g d (omega arith) .some)
 
-twos-last : (book ws : List ℕ) (d : ℕ) → 0 < d
+pub twos-last : (book ws : List ℕ) (d : ℕ) → 0 < d
     → waitingPairs book ws d ≡ pairWords book (getD ws (15616 + 2 * (d - 1)) 0) (getD ws (15616 + 2 * (d - 1) + 1) 0) (waitingPairs book ws (d - 1))
 unfolding waitingPairs
 twos-last book ws d h = let e : d ≡ suc (d - 1) = omega arith in rw e (let q : suc (d - 1) - 1 ≡ d - 1 = omega arith in rw q refl)
@@ -80,13 +76,13 @@ module _ (ws : List ℕ) (d x y : ℕ) (l : 15616 + 2 * d + 1 < length ws) where
   pub two-keeps : Keeps 0 (15616 + 2 * d) ws twoMore
   two-keeps = keeps-trans (keeps-set 0 (15616 + 2 * d) ws (15616 + 2 * d) x (inr (omega arith))) (keeps-set 0 (15616 + 2 * d) (set ws (15616 + 2 * d) x) (15616 + 2 * d + 1) y (inr (omega arith)))
 
-  twos-push : (book : List ℕ) → waitingPairs book twoMore (d + 1) ≡ pairWords book x y (waitingPairs book ws d)
+  pub twos-push : (book : List ℕ) → waitingPairs book twoMore (d + 1) ≡ pairWords book x y (waitingPairs book ws d)
   unfolding waitingPairs
   twos-push book =
       let e : d + 1 ≡ suc d = omega arith in
       rw e (rw (two-left, two-right, twos-same book d ws twoMore (λ k i. two-keeps .same (15616 + k) (omega arith) (omega arith))) refl)
 
-  twos-good : (book : List ℕ) (made : ℕ) → ((k : ℕ) → k < d → GoodTwo book made (getD ws (15616 + 2 * k) 0) (getD ws (15616 + 2 * k + 1) 0)) → GoodTwo book made x y
+  pub twos-good : (book : List ℕ) (made : ℕ) → ((k : ℕ) → k < d → GoodTwo book made (getD ws (15616 + 2 * k) 0) (getD ws (15616 + 2 * k + 1) 0)) → GoodTwo book made x y
       → (k : ℕ) → k < d + 1 → GoodTwo book made (getD twoMore (15616 + 2 * k) 0) (getD twoMore (15616 + 2 * k + 1) 0)
   twos-good book made g w k i = go (decLt k d)
     where
@@ -114,7 +110,7 @@ pairs-none book ws s c d = both-none book (s .base) (s .first) (s .beside) (s .o
 
 -- what lies elsewhere may change
 module _ (book : List ℕ) (made : ℕ) (ws ws′ : List ℕ) (s : ToPair) (P : Paired book made ws s) (k : Keeps 15616 16128 ws ws′) where
-  pub depth-most : s .depth ≤ 256
+  depth-most : s .depth ≤ 256
   depth-most = omega (arith, twos-most book made ws (s .depth) (P .waits), P .total, P .most)
 
   waits-kept : waitingPairs book ws′ (s .depth) ≡ waitingPairs book ws (s .depth)
@@ -134,10 +130,6 @@ module _ (book : List ℕ) (made : ℕ) (ws ws′ : List ℕ) (s : ToPair) (P : 
   unfolding pairListOf
   pairs-kept = rw waits-kept refl
 
-  pub past-kept : pastPairs book ws′ s ≡ pastPairs book ws s
-  unfolding pastPairs
-  past-kept = rw waits-kept refl
-
 -- two runs in hand, and nothing waits
 pub paired-start : (book : List ℕ) (made : ℕ) (ws : List ℕ) (b first c other m : ℕ) → GoodRun book made b first m → GoodRun book made c other m
     → Paired book made ws (record { first = first; base = b; other = other; beside = c; count = m; depth = 0; waiting = 0 })
@@ -150,158 +142,3 @@ paired-start book made ws b first c other m g h = record {
   most = omega (arith, g .most);
   ends = λ e. refl;
 }
-
-module _ (book : List ℕ) (made : ℕ) (mm : made ≤ 2048) (ws : List ℕ) (s : ToPair) (L : Paired book made ws s) (h : 0 < s .count) where
-  pub deep : s .depth < 256
-  deep = omega (arith, twos-most book made ws (s .depth) (L .waits), L .total, L .most)
-
-  pub past-hand : 1 < s .count
-      → PairPast book made ws s (record { first = s .first + 1; base = s .base; other = s .other + 1; beside = s .beside; count = s .count - 1; depth = s .depth; waiting = s .waiting })
-  unfolding pairListOf pastPairs
-  past-hand g = record {
-    listed = record {
-      left = run-rest book made mm (s .base) (s .first) (s .count) h (L .left);
-      right = run-rest book made mm (s .beside) (s .other) (s .count) h (L .right);
-      waits = L .waits;
-      total = L .total;
-      most = omega (arith, L .most);
-      ends = λ e. absurd (omega arith);
-    };
-    same = refl;
-  }
-
-  past-waits : s .count ≤ 1 → pastPairs book ws s ≡ waitingPairs book ws (s .depth)
-  unfolding pastPairs
-  past-waits g = both-none book (s .base) (s .first + 1) (s .beside) (s .other + 1) (s .count - 1) (waitingPairs book ws (s .depth)) (omega arith)
-
-  pub past-none : s .count ≤ 1 → s .depth ≡ 0 → PairPast book made ws s (record { first = 0; base = 0; other = 0; beside = 0; count = 0; depth = 0; waiting = 0 })
-  unfolding waitingPairs
-  past-none g e = record {
-    listed = paired-start book made ws 0 0 0 0 0 (run-empty book made) (run-empty book made);
-    same = pairs-none book ws (record { first = 0; base = 0; other = 0; beside = 0; count = 0; depth = 0; waiting = 0 }) refl refl ∙ sym (past-waits g ∙ rw e refl);
-  }
-
-  module _ (d : 0 < s .depth) (x y : ℕ) (xe : x ≡ getD ws (15616 + 2 * (s .depth - 1)) 0) (ye : y ≡ getD ws (15616 + 2 * (s .depth - 1) + 1) 0) where
-    pop-two : GoodTwo book made x y
-    pop-two = rw (xe, ye) (L .waits (s .depth - 1) (omega arith))
-
-    pop-list : waitingPairs book ws (s .depth) ≡ pairWords book x y (waitingPairs book ws (s .depth - 1))
-    pop-list = twos-last book ws (s .depth) d ∙ rw (← xe, ← ye) refl
-
-    pop-total : s .waiting ≡ countOf x + length (waitingPairs book ws (s .depth - 1))
-    pop-total = L .total ∙ ap length pop-list ∙ words-length book x y (waitingPairs book ws (s .depth - 1))
-
-    pub pop-most : x / 4096 % 16 ≤ s .waiting
-    unfolding countOf
-    pop-most = omega (arith, pop-total)
-
-    popped : s .count ≤ 1
-        → PairPast book made ws s (record { first = firstOf x; base = baseOf x; other = firstOf y; beside = baseOf y; count = countOf x; depth = s .depth - 1; waiting = s .waiting - countOf x })
-    unfolding pairListOf pairWords
-    popped g = record {
-      listed = record {
-        left = pop-two .left;
-        right = pop-two .right;
-        waits = λ k l. L .waits k (omega arith);
-        total = omega (arith, pop-total);
-        most = omega (arith, pop-total, L .most);
-        ends = λ e. absurd (omega (arith, pop-two .some));
-      };
-      same = sym (past-waits g ∙ pop-list);
-    }
-
-    pub past-pop : s .count ≤ 1
-        → PairPast book made ws s (record { first = x / 65536; base = x % 4096; other = y / 65536; beside = y % 4096; count = x / 4096 % 16; depth = s .depth - 1; waiting = s .waiting - x / 4096 % 16 })
-    unfolding firstOf countOf baseOf
-    past-pop g = popped g
-
-  -- THE ARGUMENT PAIRS OF THE FIRST PAIR IN ITS PLACE
-  module _ (R : Readable book) (r b q c trail : ℕ) (T : TermAt book made r b) (U : TermAt book made q c) (se : field book r 1 ≡ field book q 1) (ce : field book r 2 ≡ field book q 2)
-      (m : ℕ) (me : m ≡ field book r 2) where
-    pub into-none : m ≡ 0 → (x : ToPair) → PairPast book made ws s x → PairedInto book made ws ws s r b q c trail (Next x trail)
-    into-none e x p = paired se ce (keeps-refl 0 15616 ws) (p .listed) (p .same ∙ sym (both-none book b (field book r 3) c (field book q 3) (field book r 2) (pastPairs book ws s) (sym me ∙ e)))
-
-    pub into-over : 256 < s .waiting + (s .count - 1) + m → PairedInto book made ws ws s r b q c trail TooMany
-    into-over l = overfull refl se ce (omega (arith, past-length book ws s, L .total))
-
-    module _ (some : m ≡ 0 → ⊥) (l : s .waiting + (s .count - 1) + m ≤ 256) (f g : ℕ) (fe : f ≡ field book r 3) (ge : g ≡ field book q 3) where
-      left-run : GoodRun book made b f m
-      left-run = rw (fe, me) (term-run book R made r b T)
-
-      right-run : GoodRun book made c g m
-      right-run = rw (ge, me, ce) (term-run book R made q c U)
-
-      pub into-hand : s .count ≡ 1
-          → PairedInto book made ws ws s r b q c trail (Next (record { first = f; base = b; other = g; beside = c; count = m; depth = s .depth; waiting = s .waiting + (s .count - 1) }) trail)
-      unfolding pairListOf
-      into-hand e =
-          let z : s .count - 1 ≡ 0 = omega arith in
-          paired {x = record { first = f; base = b; other = g; beside = c; count = m; depth = s .depth; waiting = s .waiting + (s .count - 1) }} se ce (keeps-refl 0 15616 ws)
-          (record {
-            left = left-run;
-            right = right-run;
-            waits = L .waits;
-            total = rw z (rw (add-zero (s .waiting)) (L .total));
-            most = omega arith;
-            ends = λ q. absurd (some q);
-          })
-          (rw (fe, ge, me, past-waits (omega arith)) refl)
-
-      -- the rest of the runs in hand, as words
-      module _ (x y : ℕ) (xe : x ≡ runWord (s .first + 1) (s .count - 1) (s .base)) (ye : y ≡ runWord (s .other + 1) (s .count - 1) (s .beside)) where
-        few : s .count - 1 < 16
-        few = omega (arith, L .left .most)
-
-        rest-list : pairWords book x y (waitingPairs book ws (s .depth)) ≡ pastPairs book ws s
-        unfolding pairWords pastPairs
-        rest-list = rw (
-          xe,
-          ye,
-          first-run (s .first + 1) (s .count - 1) (s .base) few (L .left .base),
-          count-run (s .first + 1) (s .count - 1) (s .base) few (L .left .base),
-          base-run (s .first + 1) (s .count - 1) (s .base) few (L .left .base),
-          first-run (s .other + 1) (s .count - 1) (s .beside) few (L .right .base),
-          base-run (s .other + 1) (s .count - 1) (s .beside) few (L .right .base),
-        ) refl
-
-        rest-two : (s .count ≡ 1 → ⊥) → GoodTwo book made x y
-        rest-two e = rw (xe, ye) (record {
-          some = rw (count-run (s .first + 1) (s .count - 1) (s .base) few (L .left .base)) (omega arith);
-          left = rw (
-            first-run (s .first + 1) (s .count - 1) (s .base) few (L .left .base),
-            count-run (s .first + 1) (s .count - 1) (s .base) few (L .left .base),
-            base-run (s .first + 1) (s .count - 1) (s .base) few (L .left .base),
-          ) (run-rest book made mm (s .base) (s .first) (s .count) h (L .left));
-          right = rw (
-            first-run (s .other + 1) (s .count - 1) (s .beside) few (L .right .base),
-            count-run (s .first + 1) (s .count - 1) (s .base) few (L .left .base),
-            base-run (s .other + 1) (s .count - 1) (s .beside) few (L .right .base),
-          ) (run-rest book made mm (s .beside) (s .other) (s .count) h (L .right));
-        })
-
-        pushed : length ws ≡ 16384 → (s .count ≡ 1 → ⊥)
-            → PairedInto book made ws (set (set ws (15616 + 2 * s .depth) x) (15616 + 2 * s .depth + 1) y) s r b q c trail
-            (Next (record { first = f; base = b; other = g; beside = c; count = m; depth = s .depth + 1; waiting = s .waiting + (s .count - 1) }) trail)
-        unfolding pairListOf
-        pushed size e =
-            let z : 15616 + 2 * s .depth + 1 < length ws = omega (arith, deep) in
-            let w = twos-push ws (s .depth) x y z book ∙ rest-list in
-            let K = two-keeps ws (s .depth) x y z in
-            paired {x = record { first = f; base = b; other = g; beside = c; count = m; depth = s .depth + 1; waiting = s .waiting + (s .count - 1) }} se ce
-            (record { size = K .size; same = λ k i j. K .same k i (omega arith) })
-            (record {
-              left = left-run;
-              right = right-run;
-              waits = twos-good ws (s .depth) x y z book made (L .waits) (rest-two e);
-              total = omega (arith, ap length w, past-length book ws s, L .total);
-              most = omega arith;
-              ends = λ q. absurd (some q);
-            })
-            (rw (fe, ge, me, w) refl)
-
-      pub into-push : length ws ≡ 16384 → (s .count ≡ 1 → ⊥)
-          → PairedInto book made ws
-          (set (set ws (15616 + 2 * s .depth) (65536 * (s .first + 1) + (4096 * (s .count - 1) + s .base))) (15616 + 2 * s .depth + 1) (65536 * (s .other + 1) + (4096 * (s .count - 1) + s .beside)))
-          s r b q c trail (Next (record { first = f; base = b; other = g; beside = c; count = m; depth = s .depth + 1; waiting = s .waiting + (s .count - 1) }) trail)
-      unfolding runWord
-      into-push size e = pushed _ _ refl refl size e

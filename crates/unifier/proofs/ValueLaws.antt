@@ -1,10 +1,10 @@
 -- What a link leads to.
-use mathlib.Core.Path.{_≡_, refl, sym, _∙_, ap}
+use mathlib.Core.Path.{_≡_, refl, _∙_}
 use mathlib.Core.Logic.{_⊎_, inl, inr}
 use mathlib.Core.List.{List}
 use Prim.Native.Nat.{ℕ, _+_, _-_, _/_, _%_, _≤_, _<_}
 use native.Mathlib.Omega.{arith}
-use Rattle.book.specs.Records.{field, records}
+use Rattle.book.specs.Records.{field}
 use Rattle.machine.specs.Term.{Term}
 use Rattle.machine.specs.Store.{walk}
 use Rattle.words.specs.Words.{termWord, recOf, baseOf, termOf, termW, storeOf}

@@ -2,7 +2,7 @@ use lib.ListN.{length-set}
 use native.Mathlib.Omega.{arith}
 use mathlib.Core.Path.{refl, sym, _∙_}
 use Rattle.unifier.specs.PairRuns.{PairedInto.unpaired}
-use Rattle.unifier.proofs.PairRunLaws.{deep, into-none, into-over, into-hand, into-push}
+use Rattle.unifier.proofs.PairPlaces.{deep, into-none, into-over, into-hand, into-push}
 use borrow.Author.Needs.{needs}
 use Rattle.unifier.proofs.pair_into.Statement.{statement}
 use Rattle.unifier.proofs.pair_into.Tie as tie
@@ -61,7 +61,7 @@ add-if4 c = search needs
 
 -- src/lib.rt:341:9
 returns-4 : tie.Need-returns-4
-returns-4 c = let p = c .before .before .before .before .before .before .before .before .before .before .before .before .pre in let q = p .1 .1 in into-over _ _ (p .1 .0 .room) _ _ (q .0) (q .1 .0) (p .0) _ _ _ _ _ (q .1 .1 .0) (q .1 .1 .1) (sym (c .before .before .before .before .before .before .before .before .before .field .ensures .0) ∙ c .before .before .before .before .before .before .before .if1 .left ∙ c .before .before .before .before .before .before .before .before .field2 .ensures .0) (sym (c .before .before .before .before .before .before .field3 .ensures .0) ∙ c .before .before .before .before .if2 .left ∙ c .before .before .before .before .before .field4 .ensures .0) _ (c .before .before .before .before .before .before .field3 .ensures .0) (c .if4 .taken)
+returns-4 c = let p = c .before .before .before .before .before .before .before .before .before .before .before .before .pre in let q = p .1 .1 in into-over _ _ (p .1 .0 .room) _ _ (q .0) (q .1 .0) (p .0) _ _ _ _ _ (q .1 .1 .0) (q .1 .1 .1) (sym (c .before .before .before .before .before .before .before .before .before .field .ensures .0) ∙ c .before .before .before .before .before .before .before .if1 .left ∙ c .before .before .before .before .before .before .before .before .field2 .ensures .0) (sym (c .before .before .before .before .before .before .field3 .ensures .0) ∙ c .before .before .before .before .if2 .left ∙ c .before .before .before .before .before .field4 .ensures .0) _ (c .before .before .before .before .before .before .field3 .ensures .0) (omega (arith, c .if4 .taken))
 
 -- src/lib.rt:343:9
 field-requires-5 : tie.Need-field-requires-5

@@ -1,6 +1,6 @@
 use native.Mathlib.Omega.{arith}
 use mathlib.Core.Path.{refl}
-use Rattle.unifier.proofs.PairRunLaws.{deep, past-hand, past-none, pop-most, past-pop}
+use Rattle.unifier.proofs.PairPlaces.{deep, past-hand, past-none, pop-most, past-pop}
 use borrow.Author.Needs.{needs}
 use Rattle.unifier.proofs.pair_past.Statement.{statement}
 use Rattle.unifier.proofs.pair_past.Tie as tie

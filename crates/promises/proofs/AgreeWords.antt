@@ -22,7 +22,6 @@ use Rattle.words.proofs.index.Reads as words-index-reads
 use Rattle.words.proofs.field.Reads as words-field-reads
 use Rattle.words.proofs.word_for.Reads as words-word-for-reads
 use Rattle.words.proofs.push_terms.Reads as words-push-terms-reads
-use Rattle.words.proofs.push_pairs.Reads as words-push-pairs-reads
 use Rattle.words.proofs.bind.Reads as words-bind-reads
 use Rattle.words.proofs.read_through.Reads as words-read-through-reads
 use Rattle.index.proofs.make_index.Reads as index-make-index-reads
@@ -68,9 +67,6 @@ words-word-for κs a r r′ s s′ p q = p ∙ sym q
 
 pub words-push-terms : (κs : _) (a : _) (r r′ : _) (s s′ : _) → words-push-terms-reads.Post κs a r s → words-push-terms-reads.Post κs a r′ s′ → s .1 .1 .1 .1 .1 .0 .now ≡ s′ .1 .1 .1 .1 .1 .0 .now
 words-push-terms κs a r r′ s s′ p q = p ∙ sym q
-
-pub words-push-pairs : (κs : _) (a : _) (r r′ : _) (s s′ : _) → words-push-pairs-reads.Post κs a r s → words-push-pairs-reads.Post κs a r′ s′ → s .1 .1 .1 .1 .1 .1 .1 .0 .now ≡ s′ .1 .1 .1 .1 .1 .1 .1 .0 .now
-words-push-pairs κs a r r′ s s′ p q = p ∙ sym q
 
 pub words-bind : (κs : _) (a : _) (r r′ : _) (s s′ : _) → words-bind-reads.Post κs a r s → words-bind-reads.Post κs a r′ s′ → s .1 .1 .1 .0 .now ≡ s′ .1 .1 .1 .0 .now
 words-bind κs a r r′ s s′ p q = p ∙ sym q

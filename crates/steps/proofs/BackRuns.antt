@@ -1,7 +1,7 @@
 -- Entering the clause of an alternative, as a part of the run.
-use mathlib.Core.Path.{_≡_, refl, sym, _∙_, ap}
-use mathlib.Core.List.{List, [], _∷_, _++_}
-use Prim.Native.Nat.{ℕ, zero, suc, _+_, _-_, _≤_, _<_}
+use mathlib.Core.Path.{_≡_, refl, _∙_, ap}
+use mathlib.Core.List.{List, _∷_, _++_}
+use Prim.Native.Nat.{ℕ, suc, _+_, _-_}
 use native.Mathlib.Omega.{arith}
 use Rattle.book.specs.Records.{field}
 use Rattle.book.specs.Kinds.{kindAt, clauseKind}
@@ -11,14 +11,12 @@ use Rattle.machine.specs.declared.Ending.the-variants.{Stopped as StoppedEnding
 use Rattle.machine.specs.declared.Tally.{Tally}
 use Rattle.machine.specs.Machine.{Thread, solving, entering, Branch, Force, settle, tryAll}
 use Rattle.machine.specs.Answers.{Line}
-use Rattle.machine.specs.Run.{Request, Result, counted}
-use Rattle.words.specs.Words.{storeOf, pairsOf}
-use Rattle.unifier.specs.declared.How.{How}
+use Rattle.machine.specs.Run.{Request, counted}
+use Rattle.words.specs.Words.{storeOf}
 use Rattle.unifier.specs.declared.How.the-variants.{Done, Failed, Stopped}
 use Rattle.unifier.specs.declared.Unified.{Unified}
 use Rattle.unifier.specs.Moves.{Went, withStore}
-use Rattle.unifier.specs.Pairs.{Ends, atPairs}
-use Rattle.steps.specs.Enters.{EnterReady, Enters}
+use Rattle.steps.specs.Enters.{headPairs, EnterReady, Enters}
 use Rattle.steps.specs.Search.{runOn, spentUnits}
 use Rattle.steps.proofs.RunLaws.{unit-on, went-run-done, went-run-failed, went-run-stopped}
 use Rattle.steps.proofs.EnterRuns.{atomHere, forceHere, branchHere, enter-unit}
@@ -35,7 +33,7 @@ module _ (book : List ℕ) (F : Formed book) (made trail : ℕ) (ws ws′ : List
   branchAfter = withStore (branchHere book F made trail ws ws′ a e c o left r X E k b be program cs) (storeOf book ws′ (made + field book c 1))
 
   abbrev before-unify : Thread
-  before-unify = atPairs book (E .mid) (field book a 2) (branchHere book F made trail ws ws′ a e c o left r X E k b be program cs)
+  before-unify = settle (branchHere book F made trail ws ws′ a e c o left r X E k b be program cs) (headPairs book made a e c)
 
   abbrev waiting : List Thread
   waiting = tryAll b (atomHere book a e program) cs ++ ts
@@ -43,18 +41,14 @@ module _ (book : List ℕ) (F : Formed book) (made trail : ℕ) (ws ws′ : List
   first-unit : runOn q (suc left) y ls (entering b (atomHere book a e program) (forceHere book c o) cs ∷ ts) ≡ runOn q left (counted y) ls (before-unify ∷ waiting)
   first-unit = unit-on q left _ (before-unify ∷ tryAll b (atomHere book a e program) cs) ts y ls (enter-unit book F made trail ws ws′ a e c o left r X E k b be program cs)
 
-  went : Went before-unify (settle branchAfter (pairsOf book ws′ (r .pairs))) left (r .how) (r .used)
+  went : Went before-unify (solving branchAfter) left (r .how) (r .used)
+  unfolding settle
   went = E .ends .went (branchHere book F made trail ws ws′ a e c o left r X E k b be program cs) refl
-
-  solved-is : r .how ≡ Done → settle branchAfter (pairsOf book ws′ (r .pairs)) ≡ solving branchAfter
-  unfolding pairsOf settle
-  solved-is h = ap (λ (n : ℕ). settle branchAfter (pairsOf book ws′ n)) (E .solved h)
 
   pub entered-done : r .how ≡ Done → runOn q (suc left) y ls (entering b (atomHere book a e program) (forceHere book c o) cs ∷ ts)
       ≡ runOn q (left - r .used) (spentUnits (r .used + 1) y) ls (solving branchAfter ∷ waiting)
   entered-done h =
-      first-unit ∙ went-run-done q left (r .used) _ _ waiting (counted y) ls went h ∙ ap (λ (t : Thread). runOn q (left - r .used) (spentUnits (r .used) (counted y)) ls (t ∷ waiting)) (solved-is h)
-      ∙ ap (λ (z : Tally). runOn q (left - r .used) z ls (solving branchAfter ∷ waiting)) (spent-more (r .used) y)
+      first-unit ∙ went-run-done q left (r .used) _ _ waiting (counted y) ls went h ∙ ap (λ (z : Tally). runOn q (left - r .used) z ls (solving branchAfter ∷ waiting)) (spent-more (r .used) y)
 
   pub entered-failed : r .how ≡ Failed → runOn q (suc left) y ls (entering b (atomHere book a e program) (forceHere book c o) cs ∷ ts)
       ≡ runOn q (left - r .used) (spentUnits (r .used + 1) y) ls waiting

@@ -1,23 +1,20 @@
 -- Entering a clause, as the machine says it.
-use mathlib.Core.Path.{_≡_, refl, sym, _∙_, ap}
-use mathlib.Core.List.{List, [], _∷_, _++_, map}
-use Prim.Native.Nat.{ℕ, zero, suc, _+_, _-_, _≤_, _<_}
+use mathlib.Core.Path.{_≡_, refl, _∙_, ap}
+use mathlib.Core.List.{List, _∷_}
+use Prim.Native.Nat.{ℕ, _+_, _-_}
 use native.Mathlib.Omega.{arith}
 use borrow.Author.Tests.{le-leb}
 use lib.ListN.{length, take, length-map, length-take}
-use Rattle.book.specs.Records.{field, records}
+use Rattle.book.specs.Records.{field}
 use Rattle.book.specs.Kinds.{kindAt, clauseKind}
-use Rattle.book.specs.Tree.{clause, bodyOf, tiesOf, variablesOf, headArguments, headSymbol}
+use Rattle.book.specs.Tree.{clause, bodyOf, tiesOf, variablesOf, headArguments}
 use Rattle.book.specs.Decode.{clauseOf, argumentsOf, tiesFrom}
-use Rattle.book.proofs.Accepted.{Accepted, Formed}
+use Rattle.book.proofs.Accepted.{Formed}
 use Rattle.book.proofs.Unfolding.{clause-of}
-use Rattle.machine.specs.Term.{Pair, instances, pairUp}
-use Rattle.machine.specs.Store.{newEntries}
-use Rattle.machine.specs.Machine.{Thread, entering, Branch, Atom, Force, Moved, on, advance, enter, entered, headPairs, settle, tryAll, withBodyOf}
-use Rattle.words.specs.Words.{entryW, storeOf, pairsOf}
+use Rattle.machine.specs.Machine.{entering, Branch, Atom, Force, on, advance, enter, entered, settle, tryAll, withBodyOf}
+use Rattle.words.specs.Words.{entryW, storeOf}
 use Rattle.unifier.specs.declared.Unified.{Unified}
-use Rattle.unifier.specs.Pairs.{Ends, atPairs}
-use Rattle.steps.specs.Enters.{headOf, EnterReady, Enters}
+use Rattle.steps.specs.Enters.{headOf, headPairs, EnterReady, Enters}
 
 -- the atom of record a at base e, and the clause of record c
 abbrev pub atomHere : List ℕ → ℕ → ℕ → List Force → Atom
@@ -49,10 +46,7 @@ module _ (book : List ℕ) (F : Formed book) (made trail : ℕ) (ws ws′ : List
   entered-is : entered b (atomHere book a e program) (forceHere book c o) ≡ branchHere
   entered-is = rw (ties-is, vars-is, made-is, be, ← (E .store)) refl
 
-  pairs-are : headPairs made (atomHere book a e program) (forceHere book c o) ≡ pairsOf book (E .mid) (field book a 2)
-  pairs-are = rw args-is (sym (E .pairs))
-
   pub enter-unit : advance (entering b (atomHere book a e program) (forceHere book c o) cs)
-      ≡ on (atPairs book (E .mid) (field book a 2) branchHere ∷ tryAll b (atomHere book a e program) cs)
+      ≡ on (settle branchHere (headPairs book made a e c) ∷ tryAll b (atomHere book a e program) cs)
   unfolding advance enter
-  enter-unit = rw (enter, vars-is, made-is, le-leb (made + field book c 1) 2048 (X .room)) (rw (entered-is, made-is, pairs-are) refl)
+  enter-unit = rw (enter, vars-is, made-is, le-leb (made + field book c 1) 2048 (X .room)) (rw (entered-is, made-is, args-is) refl)

@@ -1,18 +1,16 @@
 -- Entering a clause and unifying keeps the alternatives.
-use mathlib.Core.Path.{_≡_, refl, sym, _∙_, ap}
-use mathlib.Core.List.{List, [], _∷_}
-use Prim.Native.Nat.{ℕ, zero, suc, _+_, _-_, _*_, _≤_, _<_}
+use mathlib.Core.Path.{refl}
+use mathlib.Core.List.{List}
+use Prim.Native.Nat.{ℕ, _+_, _-_, _≤_, _<_}
 use native.Mathlib.Omega.{arith}
 use native.Mathlib.Nat.{le-trans}
 use native.Mathlib.Decide.{decLt}
-use lib.ListN.{length, getD}
+use lib.ListN.{getD}
 use Rattle.book.specs.Records.{field}
 use Rattle.machine.specs.Machine.{Thread}
-use Rattle.words.specs.Frame.{Keeps, Bound}
 use Rattle.words.proofs.StackLaws.{keeps-narrow}
 use Rattle.words.proofs.FrameLaws.{fits-most}
 use Rattle.unifier.specs.declared.Unified.{Unified}
-use Rattle.unifier.specs.Pairs.{Pairs, Changed, Ends, atPairs}
 use Rattle.branch.specs.State.{Tops, Sound, Waiting, Agree}
 use Rattle.branch.proofs.StateLaws.{waiting-agree, waiting-raised, waiting-bound, withTrail}
 use Rattle.steps.specs.Enters.{Enters}
@@ -38,8 +36,8 @@ module _ (book : List ℕ) (t : Tops) (ws ws′ : List ℕ) (a e c o left : ℕ)
 
   mid-sound : Sound book (E .mid) topsMid
   mid-sound = record {
-    slots = E .ready .slots;
-    fits = E .ready .fits;
+    slots = E .slots;
+    fits = E .fits;
     unknowns = le-trans (S .unknowns) (omega arith);
     cells-some = S .cells-some;
     programs-some = S .programs-some;
@@ -55,8 +53,8 @@ module _ (book : List ℕ) (t : Tops) (ws ws′ : List ℕ) (a e c o left : ℕ)
 
   pub enters-sound : Sound book ws′ topsAfter
   enters-sound = record {
-    slots = E .ends .pairs .slots;
-    fits = E .ends .pairs .fits;
+    slots = E .ends .slots;
+    fits = E .ends .fits;
     unknowns = le-trans (S .unknowns) (omega arith);
     cells-some = S .cells-some;
     programs-some = S .programs-some;

@@ -49,6 +49,7 @@ pub fn enter(
     let m = words::field(book, a, 2);
     branch::open_slots(ws, made, n);
     branch::put_ties(book, ws, made, n, o, first, t);
-    words::push_pairs(book, e, a, made, h, m, 0, ws);
-    unifier::unify(book, made + n, ws, m, trail, left)
+    let from = words::field(book, a, 3);
+    let other = words::field(book, h, 3);
+    unifier::unify(book, made + n, ws, from, e, other, made, m, trail, left)
 }

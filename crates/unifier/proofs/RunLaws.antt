@@ -12,12 +12,13 @@ use Rattle.book.specs.Records.{field}
 use Rattle.book.specs.Decode.{textsFrom, textOf, argumentsOf}
 use Rattle.machine.specs.Term.{Term, count, instances, fills, spread}
 use Rattle.words.specs.Words.{baseOf, termOf}
-use Rattle.words.specs.Readable.{Readable, TextRec, HasArguments}
-use Rattle.words.specs.Good.{Below}
+use Rattle.words.specs.Readable.{Readable, HasArguments}
+use Rattle.words.specs.Good.{BelowAll}
 use Rattle.words.specs.Frame.{Keeps}
 use Rattle.words.proofs.ReadLaws.{in-book}
 use Rattle.words.proofs.TextLaws.{term-app}
 use Rattle.words.proofs.StackLaws.{run-first, spread-length, run-count, keeps-set}
+use Rattle.unifier.specs.Values.{LinkAt}
 use Rattle.unifier.specs.declared.ToLook.{ToLook}
 use Rattle.unifier.specs.declared.LookStep.the-variants.{On, Full}
 use Rattle.unifier.specs.Runs.{runWord, firstOf, countOf, runTerms, waitingOf, listOf, pastOf, GoodRun, GoodWait, Listed, Past, TermAt, LookedInto, LookedInto.into, LookedInto.into-full}
@@ -66,26 +67,27 @@ run-rest book made mm b first m h g =
       run = rw d (run-first book made mm b (g .base) first (m - 1) (rw e at (g .run)) .2);
     }
 
--- the first term of a run
-pub run-here : (book : List ℕ) (made : ℕ) → made ≤ 2048 → (b first m : ℕ) → 0 < m → GoodRun book made b first m
-    → TextRec book (field book first 1) × Below made (termOf book (field book first 1) b)
+-- the first link of a run
+pub run-here : (book : List ℕ) (made : ℕ) → made ≤ 2048 → (b first m : ℕ) → 0 < m → GoodRun book made b first m → LinkAt book made first b
 run-here book made mm b first m h g =
     let e : m ≡ suc (m - 1) = omega arith in
     let x = run-first book made mm b (g .base) first (m - 1) (rw e at (g .run)) in
-    (x .0, x .1)
+    record { link = omega (arith, g .links); base = g .base; text = x .0; below = x .1 }
 
--- the arguments of a term
-pub term-run : (book : List ℕ) → Readable book → (made r b : ℕ) → TermAt book made r b → GoodRun book made b (field book r 3) (field book r 2)
+-- the arguments of a record, of a term
+pub arguments-run : (book : List ℕ) → Readable book → (made r b : ℕ) → HasArguments book r → b < 4096 → BelowAll made (instances b (argumentsOf book r))
+    → GoodRun book made b (field book r 3) (field book r 2)
 unfolding argumentsOf
-term-run book R made r b g =
-    let h : HasArguments book r = (g .term .0, inl (g .term .1)) in
-    record {
-      base = g .base;
-      most = R .small r h;
-      links = omega (arith, R .run r h, g .term .0);
-      low = omega (arith, R .run r h, in-book book R r (g .term .0) .1);
-      run = ((λ k l u. R .target r k h l u .0), rw (term-app book R r b (g .term)) at (g .below));
-    }
+arguments-run book R made r b h bb l = record {
+  base = bb;
+  most = R .small r h;
+  links = omega (arith, R .run r h, h .0);
+  low = omega (arith, R .run r h, in-book book R r (h .0) .1);
+  run = ((λ k a u. R .target r k h a u .0), l);
+}
+
+pub term-run : (book : List ℕ) → Readable book → (made r b : ℕ) → TermAt book made r b → GoodRun book made b (field book r 3) (field book r 2)
+term-run book R made r b g = arguments-run book R made r b (g .term .0, inl (g .term .1)) (g .base) (rw (term-app book R r b (g .term)) at (g .below))
 
 -- RUNS THAT WAIT
 pub waits-same : (book : List ℕ) (d : ℕ) (ws ws′ : List ℕ) → ((k : ℕ) → k < d → getD ws′ (16128 + k) 0 ≡ getD ws (16128 + k) 0) → waitingOf book ws′ d ≡ waitingOf book ws d
@@ -139,7 +141,7 @@ unfolding listOf waitingOf
 list-none book ws s c d = run-none book (s .base) (s .first) (s .count) (waitingOf book ws (s .depth)) c ∙ rw d refl
 
 -- a run of no links
-run-empty : (book : List ℕ) (made : ℕ) → GoodRun book made 0 0 0
+pub run-empty : (book : List ℕ) (made : ℕ) → GoodRun book made 0 0 0
 unfolding textsFrom fills
 run-empty book made = record { base = omega arith; most = omega arith; links = omega arith; low = omega arith; run = ((λ k l u. absurd (omega arith)), tt) }
 

@@ -39,7 +39,7 @@ add-if2 c = search needs
 
 -- src/lib.rt:95:9
 returns-2 : tie.Need-returns-2
-returns-2 c = let p = c .before .before .before .before .before .before .before .pre in let q = p .1 .1 in (keeps-refl _ _ _, into-over _ _ (p .1 .0 .room) _ _ (q .0) (q .1 .0) (p .0) _ _ (q .1 .1) _ (c .before .before .before .before .field .ensures .0) (c .if2 .taken))
+returns-2 c = let p = c .before .before .before .before .before .before .before .pre in let q = p .1 .1 in (keeps-refl _ _ _, into-over _ _ (p .1 .0 .room) _ _ (q .0) (q .1 .0) (p .0) _ _ (q .1 .1) _ (c .before .before .before .before .field .ensures .0) (omega (arith, c .if2 .taken)))
 
 -- src/lib.rt:97:9
 field-requires-2 : tie.Need-field-requires-2

@@ -1,4 +1,4 @@
-use Rattle.book.specs.Records.{recordAt}
+use Rattle.records.proofs.ReadingLaws.{record-from}
 use borrow.Author.Needs.{needs}
 use Rattle.records.proofs.read_record.Statement.{statement}
 use Rattle.records.proofs.read_record.Tie as tie
@@ -77,8 +77,20 @@ pair-requires-8 c κs = search needs
 
 -- src/lib.rt:64:1
 returns : tie.Need-returns
-unfolding recordAt
-returns c = cc
+returns c =
+    let a = c .before .before .before .before .before .before .before .before .before .before .args in
+    record-from
+    (a .book .now)
+    (a .r)
+    (c .before .before .before .before .before .before .before .before .place .ensures)
+    (c .before .before .before .before .before .before .before .pair .ensures)
+    (c .before .before .before .before .before .before .pair2 .ensures)
+    (c .before .before .before .before .before .pair3 .ensures)
+    (c .before .before .before .before .pair4 .ensures)
+    (c .before .before .before .pair5 .ensures)
+    (c .before .before .pair6 .ensures)
+    (c .before .pair7 .ensures)
+    (c .pair8 .ensures)
 
 pub read-record-spec : {M : Type 1} → statement M
 read-record-spec =

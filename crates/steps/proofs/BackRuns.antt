@@ -16,7 +16,7 @@ use Rattle.words.specs.Words.{storeOf}
 use Rattle.unifier.specs.declared.How.the-variants.{Done, Failed, Stopped}
 use Rattle.unifier.specs.declared.Unified.{Unified}
 use Rattle.unifier.specs.Moves.{Went, withStore}
-use Rattle.steps.specs.Enters.{headPairs, EnterReady, Enters}
+use Rattle.steps.specs.Enters.{argumentPairs, EnterReady, Enters}
 use Rattle.steps.specs.Search.{runOn, spentUnits}
 use Rattle.steps.proofs.RunLaws.{unit-on, went-run-done, went-run-failed, went-run-stopped}
 use Rattle.steps.proofs.EnterRuns.{atomHere, forceHere, branchHere, enter-unit}
@@ -33,7 +33,7 @@ module _ (book : List ℕ) (F : Formed book) (made trail : ℕ) (ws ws′ : List
   branchAfter = withStore (branchHere book F made trail ws ws′ a e c o left r X E k b be program cs) (storeOf book ws′ (made + field book c 1))
 
   abbrev before-unify : Thread
-  before-unify = settle (branchHere book F made trail ws ws′ a e c o left r X E k b be program cs) (headPairs book made a e c)
+  before-unify = settle (branchHere book F made trail ws ws′ a e c o left r X E k b be program cs) (argumentPairs book made a e c)
 
   abbrev waiting : List Thread
   waiting = tryAll b (atomHere book a e program) cs ++ ts

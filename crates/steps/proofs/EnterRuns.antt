@@ -14,7 +14,7 @@ use Rattle.book.proofs.Unfolding.{clause-of}
 use Rattle.machine.specs.Machine.{entering, Branch, Atom, Force, on, advance, enter, entered, settle, tryAll, withBodyOf}
 use Rattle.words.specs.Words.{entryW, storeOf}
 use Rattle.unifier.specs.declared.Unified.{Unified}
-use Rattle.steps.specs.Enters.{headOf, headPairs, EnterReady, Enters}
+use Rattle.steps.specs.Enters.{headOf, argumentPairs, EnterReady, Enters}
 
 -- the atom of record a at base e, and the clause of record c
 abbrev pub atomHere : List ℕ → ℕ → ℕ → List Force → Atom
@@ -47,6 +47,6 @@ module _ (book : List ℕ) (F : Formed book) (made trail : ℕ) (ws ws′ : List
   entered-is = rw (ties-is, vars-is, made-is, be, ← (E .store)) refl
 
   pub enter-unit : advance (entering b (atomHere book a e program) (forceHere book c o) cs)
-      ≡ on (settle branchHere (headPairs book made a e c) ∷ tryAll b (atomHere book a e program) cs)
+      ≡ on (settle branchHere (argumentPairs book made a e c) ∷ tryAll b (atomHere book a e program) cs)
   unfolding advance enter
   enter-unit = rw (enter, vars-is, made-is, le-leb (made + field book c 1) 2048 (X .room)) (rw (entered-is, made-is, args-is) refl)

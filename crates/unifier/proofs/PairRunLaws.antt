@@ -130,6 +130,10 @@ module _ (book : List ℕ) (made : ℕ) (ws ws′ : List ℕ) (s : ToPair) (P : 
   unfolding pairListOf
   pairs-kept = rw waits-kept refl
 
+  pub past-kept : pastPairs book ws′ s ≡ pastPairs book ws s
+  unfolding pastPairs
+  past-kept = rw waits-kept refl
+
 -- two runs in hand, and nothing waits
 pub paired-start : (book : List ℕ) (made : ℕ) (ws : List ℕ) (b first c other m : ℕ) → GoodRun book made b first m → GoodRun book made c other m
     → Paired book made ws (record { first = first; base = b; other = other; beside = c; count = m; depth = 0; waiting = 0 })

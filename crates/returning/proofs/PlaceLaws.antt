@@ -89,13 +89,6 @@ module _ (book : List ℕ) (R : Readable book) (A : Accepted book) (ws : List �
         rw (← put-is)
         (put-clause book A made (X .s) (X .b) i (X .program) f after (X .here .inside) (X .kind) (X .here .holder) (X .here .scoped) (X .here .room) put-more (sym (X .is)))
 
-  pub place-few : i < 4096
-  place-few = by (decLt 0 q)
-    where
-      by : Dec (0 < q) → i < 4096
-      by (yes h) = omega (arith, put-more h, suppose-run book R (A .formed) (at-put h .s) (at-put h .here .inside) (at-put h .kind) .2)
-      by (no h) = omega (arith, own-more (omega arith), own-ready book A .count-small)
-
   pub place-here : ClauseHere book made f (placeOf book ws q i .clause) (placeOf book ws q i .outer)
   place-here = by (decLt 0 q)
     where

@@ -1,0 +1,2 @@
+-- Plain rules, and chains of them.
+pub mod Plain

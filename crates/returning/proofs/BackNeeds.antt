@@ -6,6 +6,7 @@ use Prim.Native.Nat.{ℕ, _-_, _≤_}
 use native.Mathlib.Omega.{arith}
 use native.Mathlib.Nat.{sub-zero}
 use lib.Dec.{eqb}
+use Rattle.machine.specs.declared.Ending.{Ending}
 use Rattle.machine.specs.declared.Tally.{Tally}
 use Rattle.machine.specs.Machine.{Thread, solving}
 use Rattle.words.specs.Frame.{undo}
@@ -24,9 +25,9 @@ use Rattle.steps.specs.Search.{runOn, spentUnits, topsOf, Leaves, Stands, Stand
 use Rattle.returning.specs.Returns.{ToClause, Returned, Returned.to-goal, Returned.to-clause}
 use Rattle.returning.specs.Reentry.{regsAgain, Tries}
 use Rattle.returning.specs.declared.Reached.{Reached}
-use Rattle.returning.specs.declared.Reached.the-variants.{Done, Clause}
+use Rattle.returning.specs.declared.Reached.the-variants.{Onward as ReachedOn, Finished as ReachedEnd, Clause}
 use Rattle.returning.specs.Passing.{regsGone, laterBy}
-use Rattle.returning.specs.Reaching.{ReachGives, ReachGives.reach-done, ReachGives.reach-clause, CanGoOn, CanGoOn.is-done, CanGoOn.is-clause, GoesOn}
+use Rattle.returning.specs.Reaching.{ReachGives, ReachGives.reach-on, ReachGives.reach-end, ReachGives.reach-clause, CanGoOn, CanGoOn.is-on, CanGoOn.is-end, CanGoOn.is-clause, GoesOn}
 use Rattle.returning.proofs.PassLaws.{pass-none, after-pass}
 use Rattle.returning.proofs.RenewLaws.{atom-large}
 use Rattle.returning.proofs.CandidateLaws.{none-spent}
@@ -64,10 +65,10 @@ module _ (book : List ℕ) (ws : List ℕ) (r : Regs) (threads : List Thread) (e
 
     module _ (left : ℕ) where
       -- the right side of an or, which takes no unit
-      pub goal-again : (s : Regs) → s ≡ regsAgain x k → x .atom ≡ 0 → StepGives book ws ws₁ r left threads (Onward s 0)
+      pub goal-again : (s : Regs) → s ≡ regsAgain x k → x .atom ≡ 0 → StepGives book ws ws₁ r left threads (Onward 0 s)
       goal-again s se h = rw se (go here)
         where
-          go : {us : List Thread} → Returned book ws₁ k x us → StepGives book ws ws₁ r left us (Onward (regsAgain x k) 0)
+          go : {us : List Thread} → Returned book ws₁ k x us → StepGives book ws ws₁ r left us (Onward 0 (regsAgain x k))
           go {us} (to-goal {b = b} {ts = ts} z G) =
               let B : IsBranch book ws₁ (topsOf (regsAgain x k)) (x .cell) (x .taken) (eqb (x .supposed) 1) b =
               rw (flag-back (G .supposed) (x .supposed) (G .flagged)) (G .there) in
@@ -76,23 +77,33 @@ module _ (book : List ℕ) (ws : List ℕ) (r : Regs) (threads : List Thread) (e
               (λ q y ls. ap (λ (t : Tally). runOn q left t ls (solving b ∷ ts)) (none-spent y) ∙ ap (λ (n : ℕ). runOn q n (spentUnits 0 y) ls (solving b ∷ ts)) (sym (sub-zero left)))
           go (to-clause {threads = us} X) = absurd (omega (arith, atom-large book ws₁ k x us X))
 
-      pub clause-reached : (x .atom ≡ 0 → ⊥) → ReachGives book ws ws₁ r left threads (Clause x k 0)
+      pub clause-reached : (x .atom ≡ 0 → ⊥) → ReachGives book ws ws₁ r left threads (Clause 0 x k)
       clause-reached h = reach-clause {x = x} {k = k} {used = 0} {threads′ = threads} (omega arith) (rw e (omega arith)) stays (clause-here h) (pass-none left threads)
 
 -- GOING ON
 module _ {book ws ws′ : List ℕ} {left : ℕ} where
-  pub on-done : (s : Stepped) (o : Reached) → o ≡ Done s → ws′ ≡ ws → GoesOn book ws ws′ left o s
-  on-done s o d w ws₀ r threads G = go G d
+  pub on-on : (n : ℕ) (s : Regs) (o : Reached) → o ≡ ReachedOn n s → ws′ ≡ ws → GoesOn book ws ws′ left o (Onward n s)
+  on-on n s o d w ws₀ r threads G = go G d
     where
-      go : {o : Reached} → ReachGives book ws₀ ws r left threads o → o ≡ Done s → StepGives book ws₀ ws′ r left threads s
-      go (reach-done {s = t} S) e = let z : t ≡ s = cc in rw (w, ← z) S
+      go : {o : Reached} → ReachGives book ws₀ ws r left threads o → o ≡ ReachedOn n s → StepGives book ws₀ ws′ r left threads (Onward n s)
+      go (reach-on {r′ = t} {used = m} S) e = let ne : m ≡ n = cc in let z : t ≡ s = cc in rw (w, ← ne, ← z) S
+      go (reach-end S) e = let z : _≡_ {A = ℕ} 0 1 = cc in absurd (omega arith)
       go (reach-clause a b c X P) e = let z : _≡_ {A = ℕ} 0 1 = cc in absurd (omega arith)
 
-  pub on-clause : (x : Back) (j n : ℕ) (s t : Stepped) (o : Reached) → o ≡ Clause x j n → Tries book ws ws′ j x (left - n) s → t ≡ laterBy n s → GoesOn book ws ws′ left o t
-  on-clause x j n s t o d T l ws₀ r threads G = rw l (go G d)
+  pub on-end : (d : Ending) (n : ℕ) (o : Reached) → o ≡ ReachedEnd d n → ws′ ≡ ws → GoesOn book ws ws′ left o (Finished d n)
+  on-end d n o i w ws₀ r threads G = go G i
     where
-      go : {o : Reached} → ReachGives book ws₀ ws r left threads o → o ≡ Clause x j n → StepGives book ws₀ ws′ r left threads (laterBy n s)
-      go (reach-done S) e = let z : _≡_ {A = ℕ} 0 1 = cc in absurd (omega arith)
+      go : {o : Reached} → ReachGives book ws₀ ws r left threads o → o ≡ ReachedEnd d n → StepGives book ws₀ ws′ r left threads (Finished d n)
+      go (reach-on S) e = let z : _≡_ {A = ℕ} 0 1 = cc in absurd (omega arith)
+      go (reach-end {e = f} {used = m} S) e = let fe : f ≡ d = cc in let ne : m ≡ n = cc in rw (w, ← fe, ← ne) S
+      go (reach-clause a b c X P) e = let z : _≡_ {A = ℕ} 0 1 = cc in absurd (omega arith)
+
+  pub on-clause : (n : ℕ) (x : Back) (j : ℕ) (s t : Stepped) (o : Reached) → o ≡ Clause n x j → Tries book ws ws′ j x (left - n) s → t ≡ laterBy n s → GoesOn book ws ws′ left o t
+  on-clause n x j s t o d T l ws₀ r threads G = rw l (go G d)
+    where
+      go : {o : Reached} → ReachGives book ws₀ ws r left threads o → o ≡ Clause n x j → StepGives book ws₀ ws′ r left threads (laterBy n s)
+      go (reach-on S) e = let z : _≡_ {A = ℕ} 0 1 = cc in absurd (omega arith)
+      go (reach-end S) e = let z : _≡_ {A = ℕ} 0 1 = cc in absurd (omega arith)
       go (reach-clause {x = y} {k = i} {used = m} {threads′ = us} a b L X P) e =
           let xe : y ≡ x = cc in
           let ke : i ≡ j = cc in
@@ -102,13 +113,15 @@ module _ {book ws ws′ : List ℕ} {left : ℕ} where
 -- what it asks for
 module _ {book ws : List ℕ} {left : ℕ} where
   pub can-go-on : {o : Reached} {ws₀ : List ℕ} {r : Regs} {threads : List Thread} → OwnReady book 0 → OwnIndexed book ws₀ → ReachGives book ws₀ ws r left threads o → CanGoOn book ws left o
-  can-go-on O I (reach-done S) = is-done
+  can-go-on O I (reach-on S) = is-on
+  can-go-on O I (reach-end S) = is-end
   can-go-on O I (reach-clause {threads′ = us} a b L X P) = is-clause {threads = us} a (indexed-same book (ownRun book .first) (ownRun book .count) (O .count-small) (L .index) I) X
 
-  pub clause-asked : (x : Back) (j n : ℕ) (o : Reached) → CanGoOn book ws left o → o ≡ Clause x j n → (n ≤ left) × OwnIndexed book ws × ((threads : List Thread) × ToClause book ws j x threads)
-  clause-asked x j n o (is-clause {x = y} {k = i} {used = m} {threads = us} a I X) e =
+  pub clause-asked : (n : ℕ) (x : Back) (j : ℕ) (o : Reached) → CanGoOn book ws left o → o ≡ Clause n x j → (n ≤ left) × OwnIndexed book ws × ((threads : List Thread) × ToClause book ws j x threads)
+  clause-asked n x j o (is-clause {x = y} {k = i} {used = m} {threads = us} a I X) e =
       let xe : y ≡ x = cc in
       let ke : i ≡ j = cc in
       let ne : m ≡ n = cc in
       (rw (← ne) a, I, (us, rw (xe, ke) at X))
-  clause-asked x j n o is-done e = let z : _≡_ {A = ℕ} 0 1 = cc in absurd (omega arith)
+  clause-asked n x j o is-on e = let z : _≡_ {A = ℕ} 0 1 = cc in absurd (omega arith)
+  clause-asked n x j o is-end e = let z : _≡_ {A = ℕ} 0 1 = cc in absurd (omega arith)

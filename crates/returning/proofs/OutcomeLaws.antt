@@ -12,11 +12,11 @@ use Rattle.returning.specs.declared.Front.{Front}
 use Rattle.returning.specs.Reentry.{regsOf, outcomeBy, outcomeOf}
 
 module _ (x : Back) (made n : ℕ) (l : Front) (u : Unified) where
-  pub outcome-done : u .how ≡ Done → Onward (regsOf x made n l (u .trail) true) (u .used + 1) ≡ outcomeOf x made n l u
+  pub outcome-done : u .how ≡ Done → Onward (u .used + 1) (regsOf x made n l (u .trail) true) ≡ outcomeOf x made n l u
   unfolding outcomeBy
   outcome-done e = rw e refl
 
-  pub outcome-failed : u .how ≡ Failed → Onward (regsOf x made n l (u .trail) false) (u .used + 1) ≡ outcomeOf x made n l u
+  pub outcome-failed : u .how ≡ Failed → Onward (u .used + 1) (regsOf x made n l (u .trail) false) ≡ outcomeOf x made n l u
   unfolding outcomeBy
   outcome-failed e = rw e refl
 

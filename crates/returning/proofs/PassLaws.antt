@@ -257,10 +257,10 @@ module _ (book : List ℕ) (R : Readable book) (A : Accepted book) (ws : List �
         → (threads : List Thread) → ToClause book ws k x threads → StepGives book ws ws′ r left threads t
     pass-next r ws′ s t T d threads X = let p = came-to y next used (P threads X) e in rw d (after-pass {r₀ = r} (p .0) (omega arith) (p .1 .2) (T (p .1 .0) (p .1 .1)))
 
-  pub pass-through : (y : Back) (used : ℕ) → o ≡ Through y used → (r g : Regs) → r .solving ≡ false → g ≡ regsGone y k → (threads : List Thread) → ToClause book ws k x threads → StepGives book ws ws r left threads (Onward g used)
+  pub pass-through : (y : Back) (used : ℕ) → o ≡ Through y used → (r g : Regs) → r .solving ≡ false → g ≡ regsGone y k → (threads : List Thread) → ToClause book ws k x threads → StepGives book ws ws r left threads (Onward used g)
   pass-through y used e r g s d threads X = rw d (go (P threads X) e)
     where
-      go : {o : Passed} → PassGives book ws k x left threads o → o ≡ Through y used → StepGives book ws ws r left threads (Onward (regsGone y k) used)
+      go : {o : Passed} → PassGives book ws k x left threads o → o ≡ Through y used → StepGives book ws ws r left threads (Onward used (regsGone y k))
       go (ends {y = a} {used = b} {ts = ts} h l G Q) e =
           let v : a ≡ y = cc in let w : b ≡ used = cc in
           let G′ = rw v at G in

@@ -132,14 +132,14 @@ module _ (book : List ℕ) (R : Readable book) (A : Accepted book) (ws : List �
     to-there = omega arith
 
     module _ (r : Regs) (back : r .solving ≡ false) where
-      gives-done : u .how ≡ Done → StepGives book ws ws₃ r left threads (Onward (regsOf x made n l (u .trail) true) (u .used + 1))
+      gives-done : u .how ≡ Done → StepGives book ws ws₃ r left threads (Onward (u .used + 1) (regsOf x made n l (u .trail) true))
       gives-done h =
           steps-on {r′ = regsOf x made n l (u .trail) true} {used = u .used + 1} (omega (arith, used-most)) (omega arith) steps-keep (in-hand refl sound-after branch-after waiting-after)
           (λ q y ls. from-here q y ls
           ∙ entered-done book (A .formed) (x .made) (x .trail) ws₂ ws₃ (X .a) (X .e) c o (left - 1) u enter-now E (clause-now book R A ws k x threads X .kind) (X .b) store-now (X .program) cs q y ls (X .ts) h
           ∙ ap (λ (m : ℕ). runOn q m (spentUnits (u .used + 1) y) ls (solving after ∷ behind)) to-there)
 
-      gives-failed : u .how ≡ Failed → StepGives book ws ws₃ r left threads (Onward (regsOf x made n l (u .trail) false) (u .used + 1))
+      gives-failed : u .how ≡ Failed → StepGives book ws ws₃ r left threads (Onward (u .used + 1) (regsOf x made n l (u .trail) false))
       gives-failed h =
           steps-on {r′ = regsOf x made n l (u .trail) false} {used = u .used + 1} (omega (arith, used-most)) (omega arith) steps-keep (going-back refl sound-after waiting-after)
           (λ q y ls. from-here q y ls

@@ -70,10 +70,10 @@ regsGone x n = regsOf x (x .made) n (record { cell = x .cell; cells = x .cells }
 
 -- the units of a step
 abbrev pub unitsOf : Stepped → ℕ
-unitsOf (Onward r n) = n
+unitsOf (Onward n r) = n
 unitsOf (Finished e n) = n
 
 -- a step after so many units more
 unfoldable pub laterBy : ℕ → Stepped → Stepped
-laterBy used (Onward r n) = Onward r (used + n)
+laterBy used (Onward n r) = Onward (used + n) r
 laterBy used (Finished e n) = Finished e (used + n)

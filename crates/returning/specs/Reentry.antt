@@ -60,8 +60,8 @@ regsAgain x n = regsOf x (x .made) n (record { cell = x .cell; cells = x .cells 
 
 -- the clause entered is one unit more than unifying took
 unfoldable pub outcomeBy : Back → ℕ → ℕ → Front → ℕ → ℕ → How → Stepped
-outcomeBy x made n l trail used Done = Onward (regsOf x made n l trail true) (used + 1)
-outcomeBy x made n l trail used Failed = Onward (regsOf x made n l trail false) (used + 1)
+outcomeBy x made n l trail used Done = Onward (used + 1) (regsOf x made n l trail true)
+outcomeBy x made n l trail used Failed = Onward (used + 1) (regsOf x made n l trail false)
 outcomeBy x made n l trail used (Stopped m) = Finished (StoppedEnding m) (used + 1)
 
 abbrev pub outcomeOf : Back → ℕ → ℕ → Front → Unified → Stepped

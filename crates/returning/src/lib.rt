@@ -126,6 +126,7 @@ fn outcome(x: Back, made: u32, n: u32, l: Front, u: Unified) -> Stepped
     let supposed = x.supposed == 1;
     match how {
         How::Done => Stepped::Onward(
+            u.used + 1,
             Regs {
                 made: made,
                 trail: u.trail,
@@ -137,9 +138,9 @@ fn outcome(x: Back, made: u32, n: u32, l: Front, u: Unified) -> Stepped
                 supposed: supposed,
                 solving: true,
             },
-            u.used + 1,
         ),
         How::Failed => Stepped::Onward(
+            u.used + 1,
             Regs {
                 made: made,
                 trail: u.trail,
@@ -151,7 +152,6 @@ fn outcome(x: Back, made: u32, n: u32, l: Front, u: Unified) -> Stepped
                 supposed: supposed,
                 solving: false,
             },
-            u.used + 1,
         ),
         How::Stopped(m) => Stepped::Finished(Ending::Stopped(m), u.used + 1),
     }
@@ -311,7 +311,7 @@ fn later(used: u32, s: Stepped) -> Stepped
     ensures { λ o. ⌜ o ≡ laterBy used s ⌝ }
 {
     match s {
-        Stepped::Onward(r, n) => Stepped::Onward(r, used + n),
+        Stepped::Onward(n, r) => Stepped::Onward(used + n, r),
         Stepped::Finished(e, n) => Stepped::Finished(e, used + n),
     }
 }
@@ -324,7 +324,7 @@ fn try_all(book: &[u8], ws: &mut [u32], k: u32, x: Back, left: u32) -> Stepped
     ensures { λ o. ⌜ Tries (now (book .entry)) (now (ws .entry)) (now (ws .exit)) k x left o ⌝ }
 {
     match pass_over(book, ws, k, x, left) {
-        Passed::Through(y, used) => Stepped::Onward(given_up(y, k), used),
+        Passed::Through(y, used) => Stepped::Onward(used, given_up(y, k)),
         Passed::Next(y, next, used) => {
             if left <= used {
                 return Stepped::Finished(Ending::Stopped(Limit::Budget), used);
@@ -353,10 +353,12 @@ fn restored(kept: Back, n: u32) -> Regs
     }
 }
 
-// What a step has reached: it is done; or a candidate is to be tried, by the numbers of alternative k, whose place is free, after so many units.
+// What a step has reached: it is done, as `Stepped` says; or after so many units a candidate is to be tried, by the numbers of alternative k, whose place is free.
+// The units stand at the same place in all three, so that the compiler keeps them in one register; a `Stepped` inside would be copied as a whole.
 pub enum Reached {
-    Done(Stepped),
-    Clause(Back, u32, u32),
+    Onward(u32, Regs),
+    Finished(Ending, u32),
+    Clause(u32, Back, u32),
 }
 
 // Goes back to the newest alternative; with none left the search is complete.
@@ -366,14 +368,14 @@ pub fn back(book: &[u8], ws: &mut [u32], r: Regs, left: u32) -> Reached
     ensures { λ o. ⌜ ReachContract (now (book .entry)) (now (ws .entry)) (now (ws .exit)) r left o ⌝ }
 {
     if r.alternatives == 0 {
-        return Reached::Done(Stepped::Finished(Ending::Complete, 0));
+        return Reached::Finished(Ending::Complete, 0);
     }
     let k = r.alternatives - 1;
     let x = branch::go_back(ws, k, r.trail);
     if x.atom == 0 {
-        return Reached::Done(Stepped::Onward(restored(x, k), 0));
+        return Reached::Onward(0, restored(x, k));
     }
-    Reached::Clause(x, k, 0)
+    Reached::Clause(0, x, k)
 }
 
 // Goes on from what a step has reached: a candidate is tried.
@@ -384,8 +386,9 @@ pub fn go_on(book: &[u8], ws: &mut [u32], o: Reached, left: u32) -> Stepped
     ensures { λ s. ⌜ GoesOn (now (book .entry)) (now (ws .entry)) (now (ws .exit)) left o s ⌝ }
 {
     match o {
-        Reached::Done(s) => s,
-        Reached::Clause(x, k, used) => {
+        Reached::Onward(n, r) => Stepped::Onward(n, r),
+        Reached::Finished(e, n) => Stepped::Finished(e, n),
+        Reached::Clause(used, x, k) => {
             let s = try_all(book, ws, k, x, left - used);
             later(used, s)
         }

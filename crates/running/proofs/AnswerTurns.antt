@@ -138,7 +138,7 @@ module _ (book : List ℕ) (unknowns wanted size budget : ℕ) (ws ws′ out out
   enough-by k z (cut m) a (stopped o) q e p u = absurd-answer (cc)
 
   more-by : (k : ℕ) (z : Tally) (w : Written) (a : Answered) → Given size (M .lines) out′ w a → a ≡ answered.Written k → whole ≡ Then w → z ≡ oneMore y (r .supposed) → (z .answers ≡ wanted → ⊥)
-      → TurnGives book unknowns wanted size budget ws′ out′ r y whole (On (leftBehind r) z k)
+      → TurnGives book unknowns wanted size budget ws′ out′ r y whole (On z (leftBehind r) k)
   unfolding oneMore leftBehind
   more-by k z (written ls) a (given {e = j} g h o) q e p u =
       let i : j ≡ k = cc in
@@ -177,5 +177,5 @@ module _ (book : List ℕ) (unknowns wanted size budget : ℕ) (ws ws′ out out
     answer-enough k z q p u = enough-by k z W a G q whole-is p u
 
     pub answer-more : (k : ℕ) (z : Tally) (x : Regs) → a ≡ answered.Written k → z ≡ oneMore y (r .supposed) → (z .answers ≡ wanted → ⊥) → x ≡ leftBehind r
-        → TurnGives book unknowns wanted size budget ws′ out′ r y whole (On x z k)
+        → TurnGives book unknowns wanted size budget ws′ out′ r y whole (On z x k)
     answer-more k z x q p u xe = rw xe (more-by k z W a G q whole-is p u)

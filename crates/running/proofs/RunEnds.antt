@@ -44,12 +44,12 @@ midway-start book unknowns wanted budget ws out r y e T S N z = rw e (record {
 })
 
 module _ {book : List ℕ} {unknowns wanted size budget : ℕ} {ws′ out′ : List ℕ} {r : Regs} {y : Tally} {whole : Result} where
-  pub run-on : {o : Turned} (r′ : Regs) (y′ : Tally) (end′ : ℕ) → TurnGives book unknowns wanted size budget ws′ out′ r y whole o → o ≡ On r′ y′ end′
+  pub run-on : {o : Turned} (y′ : Tally) (r′ : Regs) (end′ : ℕ) → TurnGives book unknowns wanted size budget ws′ out′ r y whole o → o ≡ On y′ r′ end′
       → Midway book unknowns wanted size budget ws′ out′ r′ y′ end′ whole × (ahead budget r′ y′ < ahead budget r y)
-  run-on r′ y′ end′ (turns-on {r′ = a} {y′ = b} {end′ = c} M l) e =
+  run-on y′ r′ end′ (turns-on {r′ = a} {y′ = b} {end′ = c} M l) e =
       let p : a ≡ r′ = cc in let q : b ≡ y′ = cc in let s : c ≡ end′ = cc in
       (rw (p, q, s) at M, rw (p, q) at l)
-  run-on r′ y′ end′ (turns-over a b c) e = let z : _≡_ {A = ℕ} 0 1 = cc in absurd (omega arith)
+  run-on y′ r′ end′ (turns-over a b c) e = let z : _≡_ {A = ℕ} 0 1 = cc in absurd (omega arith)
 
   pub run-over : {o : Turned} (d : Ending) (y′ : Tally) → TurnGives book unknowns wanted size budget ws′ out′ r y whole o → o ≡ Over d y′
       → ((d ≡ whole .ending) × (y′ ≡ whole .tally)) × (out′ ≡ filledBuffer size (whole .lines))

@@ -15,10 +15,9 @@ use Rattle.machine.specs.Run.{Result}
 use Rattle.machine.specs.Call.{filledBuffer}
 use Rattle.steps.specs.declared.Regs.{Regs}
 use Rattle.steps.specs.declared.Stepped.{Stepped}
-use Rattle.steps.specs.declared.Stepped.the-variants.{Finished}
 use Rattle.returning.specs.declared.Reached.{Reached}
-use Rattle.returning.specs.declared.Reached.the-variants.{Done}
-use Rattle.returning.specs.Reaching.{ReachGives.reach-done, ReachContract, GoesOn}
+use Rattle.returning.specs.declared.Reached.the-variants.{Finished}
+use Rattle.returning.specs.Reaching.{ReachGives.reach-end, ReachContract, GoesOn}
 use Rattle.returning.proofs.CandidateLaws.{none-spent}
 use Rattle.steps.specs.Search.{runOn, spentUnits, StepGives, StepGives.steps-on, StepGives.steps-end, StepContract}
 use Rattle.steps.proofs.RunLaws.{unit-none}
@@ -53,10 +52,10 @@ module _ (r : Regs) where
   due-no e s = let z : eqb (r .cell) 0 ≡ false = ap (λ (b : Bool). b && eqb (r .cell) 0) (sym s) ∙ e in let n = eqb-false (r .cell) 0 z in omega arith
 
 -- a goal is to be taken, and the budget is spent
-pub goal-spent : {book ws : List ℕ} {r : Regs} {left : ℕ} → r .solving ≡ true → left ≡ 0 → ReachContract book ws ws r left (Done (Finished (Stopped Budget) 0))
+pub goal-spent : {book ws : List ℕ} {r : Regs} {left : ℕ} → r .solving ≡ true → left ≡ 0 → ReachContract book ws ws r left (Finished (Stopped Budget) 0)
 goal-spent s z threads Z =
     let H = hand Z s in
-    reach-done (steps-end {e = Stopped Budget} {used = 0} (omega arith) refl
+    reach-end (steps-end {e = Stopped Budget} {used = 0} (omega arith) refl
     (λ q y ls. rw (z, H .is) (unit-none q _ (H .rest) y ls) ∙ ap (λ (t : Tally). record { ending = Stopped Budget; tally = t; lines = ls }) (none-spent y)))
 
 -- THE STEP: what was reached, and going on from it

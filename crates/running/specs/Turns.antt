@@ -57,7 +57,7 @@ ahead budget r y = 2 * (budget - y .units) + phase (r .solving)
 -- what a turn gives: the run is midway again; or it has ended so
 pub data TurnGives (book : List ℕ) (unknowns wanted size budget : ℕ) (ws′ out′ : List ℕ) (r : Regs) (y : Tally) (whole : Result) : Turned → Type 0 where
   turns-on : {r′ : Regs} {y′ : Tally} {end′ : ℕ} → Midway book unknowns wanted size budget ws′ out′ r′ y′ end′ whole → ahead budget r′ y′ < ahead budget r y
-      → TurnGives book unknowns wanted size budget ws′ out′ r y whole (On r′ y′ end′)
+      → TurnGives book unknowns wanted size budget ws′ out′ r y whole (On y′ r′ end′)
   turns-over : {e : Ending} {y′ : Tally} → whole .ending ≡ e → whole .tally ≡ y′ → out′ ≡ filledBuffer size (whole .lines)
       → TurnGives book unknowns wanted size budget ws′ out′ r y whole (Over e y′)
 
@@ -77,10 +77,10 @@ leftBehind r = record
 
 -- the units of a step
 abbrev pub unitsOf : Stepped → ℕ
-unitsOf (Onward r n) = n
+unitsOf (Onward n r) = n
 unitsOf (Finished e n) = n
 
 -- a turn that is a step
 unfoldable pub turnBy : Tally → ℕ → Stepped → Turned
-turnBy y end (Onward r n) = On r (spentUnits n y) end
+turnBy y end (Onward n r) = On (spentUnits n y) r end
 turnBy y end (Finished e n) = Over e (spentUnits n y)

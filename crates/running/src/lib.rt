@@ -22,9 +22,10 @@ use returning::Reached;
 use steps::Regs;
 use steps::Stepped;
 
-// A turn of the run: it goes on, with the registers, the tally and the end of what is written; or it has ended.
+// A turn of the run: it goes on, with the tally, the registers and the end of what is written; or it has ended.
+// The tally stands at the same place in both, as the units in `Stepped`.
 pub enum Turned {
-    On(Regs, Tally, usize),
+    On(Tally, Regs, usize),
     Over(Ending, Tally),
 }
 
@@ -88,7 +89,7 @@ fn step_taken(y: Tally, end: usize, s: Stepped) -> Turned
     ensures { λ o. ⌜ o ≡ turnBy y end s ⌝ }
 {
     match s {
-        Stepped::Onward(r, used) => Turned::On(r, spend(y, used), end),
+        Stepped::Onward(used, r) => Turned::On(spend(y, used), r, end),
         Stepped::Finished(e, used) => Turned::Over(e, spend(y, used)),
     }
 }
@@ -119,7 +120,7 @@ fn answer(
             if z.answers == wanted {
                 return Turned::Over(Ending::Enough, z);
             }
-            Turned::On(leave(r), z, e)
+            Turned::On(z, leave(r), e)
         }
     }
 }
@@ -145,7 +146,7 @@ fn reach(book: &[u8], ws: &mut [u32], r: Regs, left: u32) -> Reached
         return returning::back(book, ws, r, left);
     }
     if left == 0 {
-        return Reached::Done(Stepped::Finished(Ending::Stopped(Limit::Budget), 0));
+        return Reached::Finished(Ending::Stopped(Limit::Budget), 0);
     }
     taking::take(book, ws, r, left)
 }
@@ -211,7 +212,7 @@ pub fn run(
                     tally: z,
                 };
             }
-            Turned::On(s, z, e) => {
+            Turned::On(z, s, e) => {
                 r = s;
                 y = z;
                 end = e;

@@ -54,7 +54,7 @@ pub data StepGives (book ws ws′ : List ℕ) (r : Regs) (left : ℕ) (threads :
   steps-on : {r′ : Regs} {used : ℕ} {threads′ : List Thread} → used ≤ left → phase (r′ .solving) < 2 * used + phase (r .solving) → Leaves ws ws′
       → Stands book ws′ r′ threads′
       → ((q : Request) (y : Tally) (ls : List Line) → runOn q left y ls threads ≡ runOn q (left - used) (spentUnits used y) ls threads′)
-      → StepGives book ws ws′ r left threads (Onward r′ used)
+      → StepGives book ws ws′ r left threads (Onward used r′)
   steps-end : {e : Ending} {used : ℕ} → used ≤ left → length ws′ ≡ length ws
       → ((q : Request) (y : Tally) (ls : List Line) → runOn q left y ls threads ≡ record { ending = e; tally = spentUnits used y; lines = ls })
       → StepGives book ws ws′ r left threads (Finished e used)

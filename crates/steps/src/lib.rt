@@ -21,8 +21,9 @@ pub struct Regs {
 }
 
 // What a step gives: the registers and the units that it took; or the run has ended, after so many units.
+// The units stand at the same place in both (an ending fits into the bytes before them), so that the compiler keeps them in one register.
 pub enum Stepped {
-    Onward(Regs, u32),
+    Onward(u32, Regs),
     Finished(Ending, u32),
 }
 

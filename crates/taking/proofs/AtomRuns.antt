@@ -21,9 +21,9 @@ use Rattle.steps.specs.Search.{topsOf, Stands.going-back, StepGives, StepGives.
 use Rattle.steps.proofs.RunLaws.{unit-gives}
 use Rattle.taking.specs.declared.Cell.{Cell}
 use Rattle.returning.specs.declared.Reached.{Reached}
-use Rattle.returning.specs.declared.Reached.the-variants.{Done, Clause}
+use Rattle.returning.specs.declared.Reached.the-variants.{Onward as ReachedOn, Clause}
 use Rattle.returning.specs.Returns.{atomOf, ToClause}
-use Rattle.returning.specs.Reaching.{ReachGives, ReachGives.reach-done, ReachGives.reach-clause}
+use Rattle.returning.specs.Reaching.{ReachGives, ReachGives.reach-on, ReachGives.reach-clause}
 use Rattle.taking.specs.Takes.{backRegs, atomKept, atomReached, AtomTaken}
 use Rattle.taking.proofs.HandLaws.{Hand}
 use Rattle.taking.proofs.TakeRuns.{cellHere}
@@ -35,11 +35,11 @@ module _ (book ws : List ℕ) (r : Regs) (x : Cell) (f m : ℕ) (o : Candidate) 
       → Sought book ws (r .made) (r .programs) (field book (x .goal) 1) (field book (x .goal) 2) program o
   found-here program P = rw (fe, me) at (S program P)
 
-  pub atom-at : (q i : ℕ) (y : Back) → o ≡ At q i → y ≡ atomKept r x q i → AtomTaken book ws r x (Clause y (r .alternatives) 1)
+  pub atom-at : (q i : ℕ) (y : Back) → o ≡ At q i → y ≡ atomKept r x q i → AtomTaken book ws r x (Clause 1 y (r .alternatives))
   unfolding atomReached
   atom-at q i y e z = record { candidate = o; found = found-here; is = rw (e, z) refl }
 
-  pub atom-none : (y : Regs) → o ≡ Nothing → y ≡ backRegs r → AtomTaken book ws r x (Done (Onward y 1))
+  pub atom-none : (y : Regs) → o ≡ Nothing → y ≡ backRegs r → AtomTaken book ws r x (ReachedOn 1 y)
   unfolding atomReached
   atom-none y e z = record { candidate = o; found = found-here; is = rw (e, z) refl }
 
@@ -50,7 +50,7 @@ module _ (book : List ℕ) (F : Formed book) (ws : List ℕ) (r : Regs) (left : 
   abbrev here : Cell
   here = cellHere book F ws r left x threads h H X
 
-  atom-fails : candidates (field book (X .g) 1) (field book (X .g) 2) (X .program) ≡ [] → StepGives book ws ws r left (solving x ∷ threads) (Onward (backRegs r) 1)
+  atom-fails : candidates (field book (X .g) 1) (field book (X .g) 2) (X .program) ≡ [] → StepGives book ws ws r left (solving x ∷ threads) (Onward 1 (backRegs r))
   unfolding backRegs tryAll
   atom-fails e =
       steps-on {r′ = backRegs r} {used = 1} h (omega arith) (leaves-none ws) (going-back refl (H .sound) (H .waiting))
@@ -99,7 +99,7 @@ module _ (book : List ℕ) (F : Formed book) (ws : List ℕ) (r : Regs) (left : 
   by-candidate (At q i) (sought {c = f} {after = after} a b c) =
       reach-clause {x = atomKept r here q i} {k = r .alternatives} {used = 1} h (omega arith) (leaves-none ws) (atom-clause q i f after a b)
       (unit-gives left (solving x) threads h _ (atom-unit book F (topsOf r) ws (r .cell) (r .taken) (r .supposed) x (H .sound) (H .branch) X k l _ c))
-  by-candidate Nothing (no-more c) = reach-done (atom-fails c)
+  by-candidate Nothing (no-more c) = reach-on (atom-fails c)
 
   pub atom-steps : (y : Reached) → AtomTaken book ws r here y → ReachGives book ws ws r left (solving x ∷ threads) y
   atom-steps y T = rw (T .is) (by-candidate (T .candidate) (T .found (X .program) (X .program-is)))

@@ -16,6 +16,7 @@ use Rattle.book.proofs.Unfolding.{goal-and, goal-or, goal-suppose}
 use Rattle.machine.specs.declared.Limit.the-variants.{Goals}
 use Rattle.machine.specs.declared.Ending.the-variants.{Stopped}
 use Rattle.machine.specs.Machine.{Thread, solving, Branch, on, stop, advance, solve, taking, took, tookSuppose, todo}
+use Rattle.words.specs.Words.{termWord}
 use Rattle.branch.specs.State.{GoalHere}
 use Rattle.branch.proofs.StateLaws.{rest-agree}
 use Rattle.branch.proofs.TakeLaws.{CellAt, goal-unit, and-left, and-right}
@@ -49,7 +50,7 @@ module _ (book : List ℕ) (F : Formed book) (made g b : ℕ) (H : GoalHere book
 module _ (book : List ℕ) (F : Formed book) (ws : List ℕ) (r : Regs) (left : ℕ) (x : Branch) (threads : List Thread) (h : 0 < left)
     (H : Hand book ws (topsOf r) (r .cell) (r .taken) (r .supposed) x threads) (X : CellAt book ws (r .made) (r .cells) (r .programs) (r .cell) (x .goals)) where
   abbrev pub cellHere : Cell
-  cellHere = record { goal = X .g; base = X .b; program = X .p; next = X .q }
+  cellHere = record { word = termWord (X .g) (X .b); goal = X .g; base = X .b; program = X .p; next = X .q }
 
   -- 3 a goal would be the 513th taken on the present branch
   limit : 512 ≤ r .taken → advance (solving x) ≡ stop Goals
@@ -91,7 +92,7 @@ module _ (book : List ℕ) (F : Formed book) (ws : List ℕ) (r : Regs) (left : 
 
     -- the step gives a branch in hand
     onward : (ws′ : List ℕ) (c p a : ℕ) (s : Bool) (y : Branch) (us : List Thread) → advance (solving x) ≡ on (solving y ∷ us)
-        → Leaves ws ws′ → Hand book ws′ (topsOf (inHand r c p a s)) c (r .taken + 1) s y (us ++ threads) → StepGives book ws ws′ r left (solving x ∷ threads) (Onward (inHand r c p a s) 1)
+        → Leaves ws ws′ → Hand book ws′ (topsOf (inHand r c p a s)) c (r .taken + 1) s y (us ++ threads) → StepGives book ws ws′ r left (solving x ∷ threads) (Onward 1 (inHand r c p a s))
     unfolding inHand
     onward ws′ c p a s y us e L K =
         steps-on {r′ = inHand r c p a s} {used = 1} h (omega arith) L (in-hand refl (K .sound) (K .branch) (K .waiting)) (unit-gives left (solving x) threads h (solving y ∷ us) e)
@@ -102,7 +103,7 @@ module _ (book : List ℕ) (F : Formed book) (ws : List ℕ) (r : Regs) (left : 
     rest : Hand book ws (topsOf r) (X .q) (r .taken + 1) (r .supposed) (took x (X .gs)) threads
     rest = rest-hand (r .supposed) (took x (X .gs)) refl refl refl (H .branch .supposed-same)
 
-    pub and-steps : (ws′ : List ℕ) → kindAt book (X .g) ≡ andKind → ws′ ≡ andWords book r cellHere ws → StepGives book ws ws′ r left (solving x ∷ threads) (Onward (andRegs r) 1)
+    pub and-steps : (ws′ : List ℕ) → kindAt book (X .g) ≡ andKind → ws′ ≡ andWords book r cellHere ws → StepGives book ws ws′ r left (solving x ∷ threads) (Onward 1 (andRegs r))
     unfolding andWords andRegs taking inHand
     and-steps ws′ k e =
         let few = H .branch .cells-few in
@@ -114,7 +115,7 @@ module _ (book : List ℕ) (F : Formed book) (ws : List ℕ) (r : Regs) (left : 
         (leaves-trans (leaves-cell (r .cells) _ (X .p) (X .q) ws (omega (arith, few))) (leaves-cell (r .cells + 1) _ (X .p) (r .cells) _ (omega (arith, few))))
         (goal-hand one (field book (X .g) 1) (X .b) (X .p) (X .program) L (X .base) P (X .program-below) (omega arith) (omega arith) (omega arith)))
 
-    pub or-steps : (ws′ : List ℕ) → kindAt book (X .g) ≡ orKind → ws′ ≡ orWords book r cellHere ws → StepGives book ws ws′ r left (solving x ∷ threads) (Onward (orRegs r) 1)
+    pub or-steps : (ws′ : List ℕ) → kindAt book (X .g) ≡ orKind → ws′ ≡ orWords book r cellHere ws → StepGives book ws ws′ r left (solving x ∷ threads) (Onward 1 (orRegs r))
     unfolding orWords orKept orRegs taking inHand
     or-steps ws′ k e =
         let B = H .branch in
@@ -131,7 +132,7 @@ module _ (book : List ℕ) (F : Formed book) (ws : List ℕ) (r : Regs) (left : 
         (leaves-trans (leaves-cell (r .cells) _ (X .p) (X .q) ws (omega (arith, B .cells-few))) (leaves-trans (leaves-kept _ (r .alternatives) _ (omega arith) (right .sound .slots .size)) (leaves-cell (r .cells + 1) _ (X .p) (X .q) _ (omega (arith, B .cells-few)))))
         (goal-hand kept (field book (X .g) 1) (X .b) (X .p) (X .program) L (X .base) (rest-agree A (omega arith) P) (X .program-below) (omega (arith, falls)) (omega (arith, B .cells-few)) (omega arith)))
 
-    pub suppose-steps : (ws′ : List ℕ) → kindAt book (X .g) ≡ supposeKind → ws′ ≡ supposeWords book r cellHere ws → StepGives book ws ws′ r left (solving x ∷ threads) (Onward (supposeRegs r) 1)
+    pub suppose-steps : (ws′ : List ℕ) → kindAt book (X .g) ≡ supposeKind → ws′ ≡ supposeWords book r cellHere ws → StepGives book ws ws′ r left (solving x ∷ threads) (Onward 1 (supposeRegs r))
     unfolding supposeWords supposeRegs taking inHand
     suppose-steps ws′ k e =
         let B = H .branch in

@@ -13,18 +13,17 @@ use Rattle.book.proofs.KindLaws.{KindSays, kind-says}
 use Rattle.machine.specs.declared.Limit.the-variants.{Goals}
 use Rattle.machine.specs.declared.Ending.the-variants.{Stopped}
 use Rattle.machine.specs.Machine.{Thread, solving, Branch}
-use Rattle.words.specs.Words.{recOf, baseOf}
+use Rattle.words.specs.Words.{termWord, recOf, baseOf}
 use Rattle.words.specs.Readable.{Readable}
 use Rattle.words.proofs.PackLaws.{rec-pack, base-pack, pack-large}
 use Rattle.words.proofs.ReadLaws.{in-book}
 use Rattle.branch.specs.Seeking.{Standing}
 use Rattle.branch.proofs.TakeLaws.{CellAt, cell-at}
 use Rattle.steps.specs.declared.Regs.{Regs}
-use Rattle.steps.specs.declared.Stepped.the-variants.{Onward, Finished}
 use Rattle.steps.specs.Search.{topsOf, Stands, Stands.in-hand, Stands.going-back}
 use Rattle.returning.specs.declared.Reached.{Reached}
-use Rattle.returning.specs.declared.Reached.the-variants.{Done}
-use Rattle.returning.specs.Reaching.{ReachGives.reach-done, ReachContract}
+use Rattle.returning.specs.declared.Reached.the-variants.{Onward, Finished}
+use Rattle.returning.specs.Reaching.{ReachGives.reach-on, ReachGives.reach-end, ReachContract}
 use Rattle.taking.specs.declared.Cell.{Cell}
 use Rattle.taking.specs.Takes.{cellOf, Room, andWords, andRegs, orWords, orRegs, supposeWords, supposeRegs, AtomTaken}
 use Rattle.taking.proofs.HandLaws.{Hand, trail-room}
@@ -33,10 +32,6 @@ use Rattle.taking.proofs.AtomRuns.{atom-steps}
 
 -- THE KIND OF A GOAL, by its number
 module _ (book : List ℕ) (g : ℕ) where
-  atom-kind : field book g 0 ≡ 4 → kindAt book g ≡ atomKind
-  unfolding kindAt kindOf
-  atom-kind e = rw (kindAt, e) refl
-
   and-kind : field book g 0 ≡ 5 → kindAt book g ≡ andKind
   unfolding kindAt kindOf
   and-kind e = rw (kindAt, e) refl
@@ -45,14 +40,32 @@ module _ (book : List ℕ) (g : ℕ) where
   unfolding kindAt kindOf
   or-kind e = rw (kindAt, e) refl
 
+  -- the first kind of a goal
+  atom-kind : isGoal (kindAt book g) ≡ true → field book g 0 < 5 → kindAt book g ≡ atomKind
+  unfolding kindAt isGoal
+  atom-kind t a = go (kindOf (field book g 0)) t (kind-says (field book g 0))
+    where
+      go : (k : Kind) → isGoal k ≡ true → KindSays (field book g 0) k → k ≡ atomKind
+      go atomKind e s = refl
+      go andKind e s = absurd (omega (arith, a, s))
+      go orKind e s = absurd (omega (arith, a, s))
+      go supposeKind e s = absurd (omega (arith, a, s))
+      go variableKind e s = let z : _≡_ {A = ℕ} 0 1 = cc in absurd (omega arith)
+      go termKind e s = let z : _≡_ {A = ℕ} 0 1 = cc in absurd (omega arith)
+      go linkKind e s = let z : _≡_ {A = ℕ} 0 1 = cc in absurd (omega arith)
+      go clauseKind e s = let z : _≡_ {A = ℕ} 0 1 = cc in absurd (omega arith)
+      go tieKind e s = let z : _≡_ {A = ℕ} 0 1 = cc in absurd (omega arith)
+      go questionKind e s = let z : _≡_ {A = ℕ} 0 1 = cc in absurd (omega arith)
+      go noKind e s = let z : _≡_ {A = ℕ} 0 1 = cc in absurd (omega arith)
+
   -- a goal that is none of these
-  suppose-kind : isGoal (kindAt book g) ≡ true → field book g 0 ≢ 4 → field book g 0 ≢ 5 → field book g 0 ≢ 6 → kindAt book g ≡ supposeKind
+  suppose-kind : isGoal (kindAt book g) ≡ true → 5 ≤ field book g 0 → field book g 0 ≢ 5 → field book g 0 ≢ 6 → kindAt book g ≡ supposeKind
   unfolding kindAt isGoal
   suppose-kind t a b c = go (kindOf (field book g 0)) t (kind-says (field book g 0))
     where
       go : (k : Kind) → isGoal k ≡ true → KindSays (field book g 0) k → k ≡ supposeKind
       go supposeKind e s = refl
-      go atomKind e s = absurd (a s)
+      go atomKind e s = absurd (omega (arith, a, s))
       go andKind e s = absurd (b s)
       go orKind e s = absurd (c s)
       go variableKind e s = let z : _≡_ {A = ℕ} 0 1 = cc in absurd (omega arith)
@@ -77,7 +90,7 @@ facing s c (going-back e S W) = let z : true ≡ false = sym s ∙ e in let y : 
 
 module _ (book : List ℕ) (ws : List ℕ) (r : Regs) (threads : List Thread) (T : Facing book ws r threads) where
   abbrev cell-here : Cell
-  cell-here = record { goal = T .cell .g; base = T .cell .b; program = T .cell .p; next = T .cell .q }
+  cell-here = record { word = termWord (T .cell .g) (T .cell .b); goal = T .cell .g; base = T .cell .b; program = T .cell .p; next = T .cell .q }
 
   cell-below : r .cell < 1026
   cell-below = omega (arith, T .cell .below, T .hand .sound .cells-most)
@@ -95,7 +108,7 @@ module _ (book : List ℕ) (ws : List ℕ) (r : Regs) (threads : List Thread) (T
       let b : getD ws (6144 + 2 * r .cell) 0 % 4096 ≡ X .b = rw (X .word) (base-pack (X .g) (X .b) (X .base)) in
       let c : getD ws (6144 + 2 * r .cell + 1) 0 / 4096 ≡ X .p = rw (X .link) (omega arith) in
       let d : getD ws (6144 + 2 * r .cell + 1) 0 % 4096 ≡ X .q = rw (X .link) (omega arith) in
-      rw (cellOf, a, b, c, d) refl
+      rw (cellOf, a, b, c, d, X .word) refl
 
   room-here : Readable book → r .taken < 512 → Room ws r cell-here
   room-here R l =
@@ -126,8 +139,8 @@ module _ (book ws : List ℕ) (r : Regs) (s : r .solving ≡ true) (c : 0 < r .c
 
 -- and whatever threads they stand for, it is the machine's unit
 module _ (book : List ℕ) (F : Formed book) (ws : List ℕ) (r : Regs) (left : ℕ) (s : r .solving ≡ true) (c : 0 < r .cell) (h : 0 < left) where
-  pub stops : 512 ≤ r .taken → ReachContract book ws ws r left (Done (Finished (Stopped Goals) 0))
-  stops l threads Z = let T = facing s c Z in rw (T .is) (reach-done (goals-stop book F ws r left (T .branch) (T .waiting) h (T .hand) (T .cell) l))
+  pub stops : 512 ≤ r .taken → ReachContract book ws ws r left (Finished (Stopped Goals) 0)
+  stops l threads Z = let T = facing s c Z in rw (T .is) (reach-end (goals-stop book F ws r left (T .branch) (T .waiting) h (T .hand) (T .cell) l))
 
   module _ (x : Cell) (xe : x ≡ cellOf ws (r .cell)) (l : r .taken < 512) (kind : ℕ) (ke : kind ≡ field book (x .goal) 0) where
     module _ (threads : List Thread) (Z : Stands book ws r threads) where
@@ -140,25 +153,25 @@ module _ (book : List ℕ) (F : Formed book) (ws : List ℕ) (r : Regs) (left : 
       kind-here : kind ≡ field book (face .cell .g) 0
       kind-here = ke ∙ ap (λ (z : Cell). field book (z .goal) 0) read-as
 
-    pub takes-atom : kind ≡ 4 → (o : Reached) → AtomTaken book ws r x o → ReachContract book ws ws r left o
+    pub takes-atom : kind < 5 → (o : Reached) → AtomTaken book ws r x o → ReachContract book ws ws r left o
     takes-atom k o A threads Z =
         let T = face threads Z in
-        rw (T .is) (atom-steps book F ws r left (T .branch) (T .waiting) h (T .hand) (T .cell) l (atom-kind book (T .cell .g) (sym (kind-here threads Z) ∙ k)) o (rw (read-as threads Z) at A))
+        rw (T .is) (atom-steps book F ws r left (T .branch) (T .waiting) h (T .hand) (T .cell) l (atom-kind book (T .cell .g) (T .cell .here .kind) (rw (kind-here threads Z) at k)) o (rw (read-as threads Z) at A))
 
     module _ (ws′ : List ℕ) (y : Regs) where
-      pub takes-and : kind ≡ 5 → ws′ ≡ andWords book r x ws → y ≡ andRegs r → ReachContract book ws ws′ r left (Done (Onward y 1))
+      pub takes-and : kind ≡ 5 → ws′ ≡ andWords book r x ws → y ≡ andRegs r → ReachContract book ws ws′ r left (Onward 1 y)
       takes-and k e d threads Z =
           let T = face threads Z in
-          rw (T .is, d) (reach-done (and-steps book F ws r left (T .branch) (T .waiting) h (T .hand) (T .cell) l ws′ (and-kind book (T .cell .g) (sym (kind-here threads Z) ∙ k)) (rw (read-as threads Z) at e)))
+          rw (T .is, d) (reach-on (and-steps book F ws r left (T .branch) (T .waiting) h (T .hand) (T .cell) l ws′ (and-kind book (T .cell .g) (sym (kind-here threads Z) ∙ k)) (rw (read-as threads Z) at e)))
 
-      pub takes-or : kind ≡ 6 → ws′ ≡ orWords book r x ws → y ≡ orRegs r → ReachContract book ws ws′ r left (Done (Onward y 1))
+      pub takes-or : kind ≡ 6 → ws′ ≡ orWords book r x ws → y ≡ orRegs r → ReachContract book ws ws′ r left (Onward 1 y)
       takes-or k e d threads Z =
           let T = face threads Z in
-          rw (T .is, d) (reach-done (or-steps book F ws r left (T .branch) (T .waiting) h (T .hand) (T .cell) l ws′ (or-kind book (T .cell .g) (sym (kind-here threads Z) ∙ k)) (rw (read-as threads Z) at e)))
+          rw (T .is, d) (reach-on (or-steps book F ws r left (T .branch) (T .waiting) h (T .hand) (T .cell) l ws′ (or-kind book (T .cell .g) (sym (kind-here threads Z) ∙ k)) (rw (read-as threads Z) at e)))
 
-      pub takes-suppose : kind ≢ 4 → kind ≢ 5 → kind ≢ 6 → ws′ ≡ supposeWords book r x ws → y ≡ supposeRegs r → ReachContract book ws ws′ r left (Done (Onward y 1))
+      pub takes-suppose : 5 ≤ kind → kind ≢ 5 → kind ≢ 6 → ws′ ≡ supposeWords book r x ws → y ≡ supposeRegs r → ReachContract book ws ws′ r left (Onward 1 y)
       takes-suppose a b c e d threads Z =
           let T = face threads Z in
           let z = kind-here threads Z in
-          let k = suppose-kind book (T .cell .g) (T .cell .here .kind) (λ q. a (z ∙ q)) (λ q. b (z ∙ q)) (λ q. c (z ∙ q)) in
-          rw (T .is, d) (reach-done (suppose-steps book F ws r left (T .branch) (T .waiting) h (T .hand) (T .cell) l ws′ k (rw (read-as threads Z) at e)))
+          let k = suppose-kind book (T .cell .g) (T .cell .here .kind) (rw z at a) (λ q. b (z ∙ q)) (λ q. c (z ∙ q)) in
+          rw (T .is, d) (reach-on (suppose-steps book F ws r left (T .branch) (T .waiting) h (T .hand) (T .cell) l ws′ k (rw (read-as threads Z) at e)))

@@ -14,14 +14,14 @@ use Rattle.branch.specs.State.{IsProgram, putCell, flag}
 use Rattle.branch.specs.Seeking.{Sought}
 use Rattle.branch.specs.Alternatives.{keepWords}
 use Rattle.steps.specs.declared.Regs.{Regs}
-use Rattle.steps.specs.declared.Stepped.the-variants.{Onward}
 use Rattle.returning.specs.declared.Reached.{Reached}
-use Rattle.returning.specs.declared.Reached.the-variants.{Done, Clause}
+use Rattle.returning.specs.declared.Reached.the-variants.{Onward, Clause}
 use Rattle.taking.specs.declared.Cell.{Cell}
 
 -- goal cell c, read
 unfoldable pub cellOf : List ℕ → ℕ → Cell
 cellOf ws c = record {
+  word = getD ws (6144 + 2 * c) 0;
   goal = getD ws (6144 + 2 * c) 0 / 4096 - 1;
   base = getD ws (6144 + 2 * c) 0 % 4096;
   program = getD ws (6144 + 2 * c + 1) 0 / 4096;
@@ -107,15 +107,15 @@ atomKept r x q i = record {
   cell = x .next;
   taken = r .taken + 1;
   supposed = flag (r .supposed);
-  atom = termWord (x .goal) (x .base);
+  atom = x .word;
   call = x .program;
   node = q;
   index = i;
 }
 
 unfoldable pub atomReached : Regs → Cell → Candidate → Reached
-atomReached r x (At q i) = Clause (atomKept r x q i) (r .alternatives) 1
-atomReached r x Nothing = Done (Onward (backRegs r) 1)
+atomReached r x (At q i) = Clause 1 (atomKept r x q i) (r .alternatives)
+atomReached r x Nothing = Onward 1 (backRegs r)
 
 pub record AtomTaken (book ws : List ℕ) (r : Regs) (x : Cell) (y : Reached) : Type 0 where
   pub candidate : Candidate

@@ -19,10 +19,10 @@ use machine::Ending;
 use machine::Limit;
 use returning::Reached;
 use steps::Regs;
-use steps::Stepped;
 
-// A goal cell: the goal's record and base, its program, and the next cell.
+// A goal cell: the word of the goal and base in it, the goal's record and base, its program, and the next cell.
 pub struct Cell {
+    pub word: u32,
     pub goal: u32,
     pub base: u32,
     pub program: u32,
@@ -38,6 +38,7 @@ fn read_cell(ws: &[u32], c: u32) -> Cell
     let w = ws[at];
     let v = ws[at + 1];
     Cell {
+        word: w,
         goal: w / 4096 - 1,
         base: w % 4096,
         program: v / 4096,
@@ -164,7 +165,7 @@ fn to_back(r: Regs) -> Regs
 
 // The numbers for the atom of cell x with the candidate that is clause i of program q.
 fn at_clause(r: Regs, x: Cell, q: u32, i: u32) -> Back
-    requires { ⌜ (x .goal < 4096) × (x .base < 4096) × (r .taken < 512) ⌝ }
+    requires { ⌜ r .taken < 512 ⌝ }
     ensures { λ y. ⌜ y ≡ atomKept r x q i ⌝ }
 {
     Back {
@@ -175,7 +176,7 @@ fn at_clause(r: Regs, x: Cell, q: u32, i: u32) -> Back
         cell: x.next,
         taken: r.taken + 1,
         supposed: flag_of(r.supposed),
-        atom: 4096 * (x.goal + 1) + x.base,
+        atom: x.word,
         call: x.program,
         node: q,
         index: i,
@@ -194,8 +195,8 @@ fn take_atom(book: &[u8], ws: &[u32], r: Regs, x: Cell) -> Reached
     let f = words::field(book, x.goal, 1);
     let m = words::field(book, x.goal, 2);
     match branch::seek_first(book, r.made, ws, r.programs, x.program, f, m) {
-        Candidate::At(q, i) => Reached::Clause(at_clause(r, x, q, i), r.alternatives, 1),
-        Candidate::Nothing => Reached::Done(Stepped::Onward(to_back(r), 1)),
+        Candidate::At(q, i) => Reached::Clause(1, at_clause(r, x, q, i), r.alternatives),
+        Candidate::Nothing => Reached::Onward(1, to_back(r)),
     }
 }
 
@@ -208,21 +209,22 @@ pub fn take(book: &[u8], ws: &mut [u32], r: Regs, left: u32) -> Reached
     ensures { λ o. ⌜ ReachContract (now (book .entry)) (now (ws .entry)) (now (ws .exit)) r left o ⌝ }
 {
     if 512 <= r.taken {
-        return Reached::Done(Stepped::Finished(Ending::Stopped(Limit::Goals), 0));
+        return Reached::Finished(Ending::Stopped(Limit::Goals), 0);
     }
     let x = read_cell(ws, r.cell);
     let kind = words::field(book, x.goal, 0);
-    if kind == 4 {
+    // Below 5 a goal is an atom. With `kind == 4` the compiler makes one switch of all kinds, and asks for an atom last.
+    if kind < 5 {
         return take_atom(book, ws, r, x);
     }
     if kind == 5 {
         let y = take_and(book, ws, r, x);
-        return Reached::Done(Stepped::Onward(y, 1));
+        return Reached::Onward(1, y);
     }
     if kind == 6 {
         let y = take_or(book, ws, r, x);
-        return Reached::Done(Stepped::Onward(y, 1));
+        return Reached::Onward(1, y);
     }
     let y = take_suppose(book, ws, r, x);
-    Reached::Done(Stepped::Onward(y, 1))
+    Reached::Onward(1, y)
 }

@@ -1,5 +1,5 @@
 use native.Mathlib.Omega.{arith}
-use Rattle.returning.specs.Reaching.{ReachGives.reach-done}
+use Rattle.returning.specs.Reaching.{ReachGives.reach-on, ReachGives.reach-end}
 use Rattle.returning.proofs.ReturnLaws.{complete}
 use Rattle.returning.proofs.BackNeeds.{back-ready, goal-again, clause-reached}
 use borrow.Author.Needs.{needs}
@@ -12,7 +12,7 @@ use Rattle.returning.proofs.restored.Reads as restored-reads
 
 -- src/lib.rt:388:9
 returns : tie.Need-returns
-returns c = λ threads Z. reach-done (complete _ _ _ _ threads (c .before .before .before .before .pre .0) Z (c .if1 .taken))
+returns c = λ threads Z. reach-end (complete _ _ _ _ threads (c .before .before .before .before .pre .0) Z (c .if1 .taken))
 
 -- src/lib.rt:390:13
 sub-k : tie.Need-sub-k
@@ -32,7 +32,7 @@ same-length c = search needs
 
 -- src/lib.rt:393:9
 returns-2 : tie.Need-returns-2
-returns-2 c = λ threads Z. reach-done (goal-again _ _ (c .before .before .before .before .before .before .before .before .before .before .before .before .args .r) threads (c .before .before .before .before .before .before .before .before .before .before .before .before .pre .0) Z (c .before .before .before .before .before .before .before .before .if1 .left) _ _ (c .before .before .before .before .before .go-back .ensures .0) (c .before .before .before .before .before .go-back .ensures .1) _ _ (c .restored .ensures) (c .before .if2 .taken))
+returns-2 c = λ threads Z. reach-on (goal-again _ _ (c .before .before .before .before .before .before .before .before .before .before .before .before .args .r) threads (c .before .before .before .before .before .before .before .before .before .before .before .before .pre .0) Z (c .before .before .before .before .before .before .before .before .if1 .left) _ _ (c .before .before .before .before .before .go-back .ensures .0) (c .before .before .before .before .before .go-back .ensures .1) _ _ (c .restored .ensures) (c .before .if2 .taken))
 
 -- src/lib.rt:382:1
 same-length-2 : tie.Need-same-length-2

@@ -10,16 +10,16 @@ enum-told : tie.Need-enum-told
 enum-told c = search needs
 
 -- src/lib.rt:138:13
-add-t11 : tie.Need-add-t11
-add-t11 c = search needs
+add-t10 : tie.Need-add-t10
+add-t10 c = search needs
 
 -- src/lib.rt:141:13
 enum-told-2 : tie.Need-enum-told-2
 enum-told-2 c = search needs
 
 -- src/lib.rt:152:13
-add-t13 : tie.Need-add-t13
-add-t13 c = search needs
+add-t12 : tie.Need-add-t12
+add-t12 c = search needs
 
 -- src/lib.rt:154:22
 enum-known-how : tie.Need-enum-known-how
@@ -46,9 +46,9 @@ outcome-spec =
     tie.close
     (tie.spec
     enum-told
-    add-t11
+    add-t10
     enum-told-2
-    add-t13
+    add-t12
     enum-known-how
     add-t15
     returns

@@ -42,16 +42,16 @@ returns : tie.Need-returns Inv-loop μ-loop
 returns c = let I = c .before .before .before .before .before .before .before .before .before .before .loop .inv in run-over _ _ (rw (I .1) at (c .before .before .before .before .before .before .before .turn .ensures _ (rw (sym (I .1)) at (I .2)))) (c .before .e .given .1)
 
 -- src/lib.rt:188:24
-enum-known-s : tie.Need-enum-known-s Inv-loop μ-loop
-enum-known-s c = search needs
+enum-known-z : tie.Need-enum-known-z Inv-loop μ-loop
+enum-known-z c = search needs
 
 -- src/lib.rt:180:5
 loop-less : tie.Need-loop-less Inv-loop μ-loop
-loop-less c = let I = c .before .before .before .before .before .before .before .before .before .before .loop .inv in run-on _ _ _ (rw (I .1) at (c .before .before .before .before .before .before .before .turn .ensures _ (rw (sym (I .1)) at (I .2)))) (c .before .s .given .1) .1
+loop-less c = let I = c .before .before .before .before .before .before .before .before .before .before .loop .inv in run-on _ _ _ (rw (I .1) at (c .before .before .before .before .before .before .before .turn .ensures _ (rw (sym (I .1)) at (I .2)))) (c .before .z .given .1) .1
 
 -- src/lib.rt:180:5
 loop-again : tie.Need-loop-again Inv-loop μ-loop
-loop-again c = let I = c .before .before .before .before .before .before .before .before .before .before .loop .inv in (search needs, search needs, run-on _ _ _ (rw (I .1) at (c .before .before .before .before .before .before .before .turn .ensures _ (rw (sym (I .1)) at (I .2)))) (c .before .s .given .1) .0)
+loop-again c = let I = c .before .before .before .before .before .before .before .before .before .before .loop .inv in (search needs, search needs, run-on _ _ _ (rw (I .1) at (c .before .before .before .before .before .before .before .turn .ensures _ (rw (sym (I .1)) at (I .2)))) (c .before .z .given .1) .0)
 
 pub run-spec : {M : Type 1} → statement M
 run-spec =
@@ -65,6 +65,6 @@ run-spec =
     same-length
     same-length-2
     returns
-    enum-known-s
+    enum-known-z
     loop-less
     loop-again)

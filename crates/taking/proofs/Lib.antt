@@ -3,4 +3,5 @@ pub mod WrittenLaws
 pub mod HandLaws
 pub mod TakeRuns
 pub mod AtomRuns
+pub mod PlainSteps
 pub mod TakingLaws

@@ -8,7 +8,7 @@ use native.Mathlib.Omega.{arith}
 use lib.ListN.{length, getD}
 use Rattle.book.specs.Records.{field, records}
 use Rattle.book.specs.Kinds.{Kind, variableKind, termKind, linkKind, atomKind, andKind, orKind, supposeKind, clauseKind, tieKind, questionKind, noKind, kindOf, kindAt, isGoal}
-use Rattle.book.proofs.Accepted.{Formed}
+use Rattle.book.proofs.Accepted.{Accepted, Formed}
 use Rattle.book.proofs.KindLaws.{KindSays, kind-says}
 use Rattle.machine.specs.declared.Limit.the-variants.{Goals}
 use Rattle.machine.specs.declared.Ending.the-variants.{Stopped}
@@ -19,16 +19,18 @@ use Rattle.words.proofs.PackLaws.{rec-pack, base-pack, pack-large}
 use Rattle.words.proofs.ReadLaws.{in-book}
 use Rattle.branch.specs.Seeking.{Standing}
 use Rattle.branch.proofs.TakeLaws.{CellAt, cell-at}
+use Rattle.following.specs.declared.Followed.{Followed}
 use Rattle.steps.specs.declared.Regs.{Regs}
 use Rattle.steps.specs.Search.{topsOf, Stands, Stands.in-hand, Stands.going-back}
 use Rattle.returning.specs.declared.Reached.{Reached}
 use Rattle.returning.specs.declared.Reached.the-variants.{Onward, Finished}
 use Rattle.returning.specs.Reaching.{ReachGives.reach-on, ReachGives.reach-end, ReachContract}
 use Rattle.taking.specs.declared.Cell.{Cell}
-use Rattle.taking.specs.Takes.{cellOf, Room, andWords, andRegs, orWords, orRegs, supposeWords, supposeRegs, AtomTaken}
+use Rattle.taking.specs.Takes.{cellOf, Room, andWords, andRegs, orWords, orRegs, supposeWords, supposeRegs, AtomTaken, PlainAhead, plainWords, plainRegs}
 use Rattle.taking.proofs.HandLaws.{Hand, trail-room}
 use Rattle.taking.proofs.TakeRuns.{goals-stop, and-steps, or-steps, suppose-steps}
 use Rattle.taking.proofs.AtomRuns.{atom-steps}
+use Rattle.taking.proofs.PlainSteps.{plain-steps}
 
 -- THE KIND OF A GOAL, by its number
 module _ (book : List ℕ) (g : ℕ) where
@@ -175,3 +177,12 @@ module _ (book : List ℕ) (F : Formed book) (ws : List ℕ) (r : Regs) (left : 
           let z = kind-here threads Z in
           let k = suppose-kind book (T .cell .g) (T .cell .here .kind) (rw z at a) (λ q. b (z ∙ q)) (λ q. c (z ∙ q)) in
           rw (T .is, d) (reach-on (suppose-steps book F ws r left (T .branch) (T .waiting) h (T .hand) (T .cell) l ws′ k (rw (read-as threads Z) at e)))
+
+-- the goals of plain rules
+module _ (book : List ℕ) (A : Accepted book) (ws : List ℕ) (r : Regs) (left : ℕ) (s : r .solving ≡ true) (c : 0 < r .cell) (h : 0 < left) (x : Cell) (xe : x ≡ cellOf ws (r .cell))
+    (p : Followed) (some : 0 < p .rules) (P : PlainAhead book r x left p) where
+  pub takes-plain : (ws′ : List ℕ) (y : Regs) → ws′ ≡ plainWords r x p ws → y ≡ plainRegs r p → ReachContract book ws ws′ r left (Onward (2 * p .rules) y)
+  takes-plain ws′ y e d threads Z =
+      let T = facing s c Z in
+      let z = xe ∙ cell-read book ws r threads T in
+      rw (T .is, d) (reach-on (plain-steps book A ws r left (T .branch) (T .waiting) h (T .hand) (T .cell) p some (rw z at P) ws′ (rw z at e)))

@@ -1,10 +1,10 @@
--- What taking a goal does to the registers and the words. It is exactly one unit.
+-- What taking a goal does to the registers and the words. It is exactly one unit, but where plain rules lead on.
 use mathlib.Core.Path.{_≡_}
 use mathlib.Core.Bool.{Bool, true, false}
 use mathlib.Core.List.{List}
-use Prim.Native.Nat.{ℕ, _+_, _-_, _*_, _/_, _%_, _<_}
+use Prim.Native.Nat.{ℕ, _+_, _-_, _*_, _/_, _%_, _≤_, _<_}
 use lib.ListN.{length, getD, set}
-use Rattle.book.specs.Records.{field}
+use Rattle.book.specs.Records.{field, records}
 use Rattle.machine.specs.Machine.{Force}
 use Rattle.words.specs.Words.{termWord}
 use Rattle.branch.specs.declared.Back.{Back}
@@ -13,6 +13,8 @@ use Rattle.branch.specs.declared.Candidate.the-variants.{At, Nothing}
 use Rattle.branch.specs.State.{IsProgram, putCell, flag}
 use Rattle.branch.specs.Seeking.{Sought}
 use Rattle.branch.specs.Alternatives.{keepWords}
+use Rattle.following.specs.declared.Followed.{Followed}
+use Rattle.following.specs.Plain.{Chain}
 use Rattle.steps.specs.declared.Regs.{Regs}
 use Rattle.returning.specs.declared.Reached.{Reached}
 use Rattle.returning.specs.declared.Reached.the-variants.{Onward, Clause}
@@ -122,3 +124,28 @@ pub record AtomTaken (book ws : List ℕ) (r : Regs) (x : Cell) (y : Reached) : 
   pub found : (program : List Force) → IsProgram book ws (r .made) (r .programs) (x .program) program
       → Sought book ws (r .made) (r .programs) (field book (x .goal) 1) (field book (x .goal) 2) program candidate
   pub is : y ≡ atomReached r x candidate
+
+-- Plain rules lead on from the goal of cell x, within the goals and the units that are left.
+pub record PlainAhead (book : List ℕ) (r : Regs) (x : Cell) (left : ℕ) (p : Followed) : Type 0 where
+  pub own : x .program ≡ 0
+  pub chain : Chain book (x .goal) (p .goal) (p .rules)
+  pub inside : p .goal < records book
+  pub goals : r .taken + p .rules ≤ 512
+  pub units : 2 * p .rules ≤ left
+
+-- the goal to which they lead, in the next cell; its holder has no variables
+unfoldable pub plainWords : Regs → Cell → Followed → List ℕ → List ℕ
+plainWords r x p ws = putCell (r .cells) (termWord (p .goal) (r .made)) (x .program) (x .next) ws
+
+unfoldable pub plainRegs : Regs → Followed → Regs
+plainRegs r p = record {
+  made = r .made;
+  trail = r .trail;
+  cells = r .cells + 1;
+  programs = r .programs;
+  alternatives = r .alternatives;
+  cell = r .cells;
+  taken = r .taken + p .rules;
+  supposed = r .supposed;
+  solving = true;
+}

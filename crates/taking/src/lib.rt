@@ -1,20 +1,21 @@
-// Taking a goal: one unit of the run.
+// Taking a goal: one unit of the run; or, where plain rules lead on from it, two units for each of them.
 ghost use mathlib.Core.Path.{_≡_};
 ghost use mathlib.Core.Bool.{true, false};
 ghost use Prim.Native.Nat.{_+_, _-_, _*_, _≤_, _<_};
 ghost use lib.ListN.{length, getD};
 ghost use Rattle.words.specs.Readable.{Readable};
 ghost use Rattle.book.specs.Records.{records};
-ghost use Rattle.book.proofs.Accepted.{Formed};
+ghost use Rattle.book.proofs.Accepted.{Accepted, Formed};
 ghost use Rattle.branch.specs.State.{flag};
 ghost use Rattle.branch.specs.Seeking.{OwnReady, OwnIndexed, Standing};
 ghost use Rattle.machine.specs.Machine.{Thread};
 ghost use mathlib.Core.List.{List};
 ghost use Rattle.steps.specs.Search.{Stands};
 ghost use Rattle.returning.specs.Reaching.{ReachContract};
-ghost use Rattle.taking.specs.Takes.{cellOf, Room, inHand, backRegs, andWords, andRegs, orWords, orRegs, putProgram, supposeWords, supposeRegs, atomKept, AtomTaken};
+ghost use Rattle.taking.specs.Takes.{cellOf, Room, inHand, backRegs, andWords, andRegs, orWords, orRegs, putProgram, supposeWords, supposeRegs, atomKept, AtomTaken, PlainAhead, plainWords, plainRegs};
 use branch::Back;
 use branch::Candidate;
+use following::Followed;
 use machine::Ending;
 use machine::Limit;
 use returning::Reached;
@@ -183,6 +184,58 @@ fn at_clause(r: Regs, x: Cell, q: u32, i: u32) -> Back
     }
 }
 
+// How many plain rules there may be, with so many goals taken and so many units left: a goal and two units for each.
+fn most_rules(taken: u32, left: u32) -> u32
+    requires { ⌜ taken ≤ 512 ⌝ }
+    ensures { λ n. ⌜ (taken + n ≤ 512) × (2 * n ≤ left) ⌝ }
+{
+    let goals = 512 - taken;
+    let pairs = left / 2;
+    if goals < pairs {
+        return goals;
+    }
+    pairs
+}
+
+// Follows plain rules from the goal of cell x, if its program is the question's own.
+fn plain_ahead(book: &[u8], ws: &[u32], r: Regs, x: Cell, left: u32) -> Followed
+    requires { ⌜ Readable (now book) ⌝ }
+    requires { ⌜ Formed (now book) × OwnReady (now book) 0 × OwnIndexed (now book) (now ws) ⌝ }
+    requires { ⌜ x .goal < records (now book) ⌝ }
+    requires { ⌜ Room (now ws) r x ⌝ }
+    ensures { λ p. ⌜ (0 < p .rules → PlainAhead (now (book .entry)) r x left p) ⌝ }
+{
+    if 0 < x.program {
+        return Followed {
+            goal: x.goal,
+            rules: 0,
+        };
+    }
+    following::follow(book, ws, x.goal, most_rules(r.taken, left))
+}
+
+// Takes the goals of plain rules: the goal to which they lead is put in the place of the goal of cell x.
+fn take_plain(ws: &mut [u32], r: Regs, x: Cell, p: Followed) -> Regs
+    requires { ⌜ (p .goal < 4096) × (r .taken + p .rules ≤ 512) ⌝ }
+    requires { ⌜ Room (now ws) r x ⌝ }
+    ensures { λ y. ⌜ now (ws .exit) ≡ plainWords r x p (now (ws .entry)) ⌝ }
+    ensures { λ y. ⌜ y ≡ plainRegs r p ⌝ }
+{
+    let cells = r.cells;
+    branch::put_cell(ws, cells, 4096 * (p.goal + 1) + r.made, x.program, x.next);
+    Regs {
+        made: r.made,
+        trail: r.trail,
+        cells: cells + 1,
+        programs: r.programs,
+        alternatives: r.alternatives,
+        cell: cells,
+        taken: r.taken + p.rules,
+        supposed: r.supposed,
+        solving: true,
+    }
+}
+
 // Takes an atom: its first candidate is tried next; with none, go back.
 fn take_atom(book: &[u8], ws: &[u32], r: Regs, x: Cell) -> Reached
     requires { ⌜ Readable (now book) ⌝ }
@@ -203,7 +256,7 @@ fn take_atom(book: &[u8], ws: &[u32], r: Regs, x: Cell) -> Reached
 // Takes the first goal of the branch in hand.
 pub fn take(book: &[u8], ws: &mut [u32], r: Regs, left: u32) -> Reached
     requires { ⌜ Readable (now book) ⌝ }
-    requires { ⌜ Formed (now book) × OwnReady (now book) 0 × OwnIndexed (now book) (now ws) ⌝ }
+    requires { ⌜ Accepted (now book) × OwnReady (now book) 0 × OwnIndexed (now book) (now ws) ⌝ }
     requires { ⌜ (r .solving ≡ true) × (0 < r .cell) × (0 < left) ⌝ }
     requires { ⌜ ((threads : List Thread) × Stands (now book) (now ws) r threads) ⌝ }
     ensures { λ o. ⌜ ReachContract (now (book .entry)) (now (ws .entry)) (now (ws .exit)) r left o ⌝ }
@@ -215,6 +268,11 @@ pub fn take(book: &[u8], ws: &mut [u32], r: Regs, left: u32) -> Reached
     let kind = words::field(book, x.goal, 0);
     // Below 5 a goal is an atom. With `kind == 4` the compiler makes one switch of all kinds, and asks for an atom last.
     if kind < 5 {
+        let p = plain_ahead(book, ws, r, x, left);
+        if 0 < p.rules {
+            let y = take_plain(ws, r, x, p);
+            return Reached::Onward(2 * p.rules, y);
+        }
         return take_atom(book, ws, r, x);
     }
     if kind == 5 {

@@ -221,15 +221,15 @@ fn take_plain(ws: &mut [u32], r: Regs, x: Cell, p: Followed) -> Regs
     ensures { λ y. ⌜ now (ws .exit) ≡ plainWords r x p (now (ws .entry)) ⌝ }
     ensures { λ y. ⌜ y ≡ plainRegs r p ⌝ }
 {
-    let cells = r.cells;
-    branch::put_cell(ws, cells, 4096 * (p.goal + 1) + r.made, x.program, x.next);
+    let cell = r.cells;
+    branch::put_cell(ws, cell, 4096 * (p.goal + 1) + r.made, x.program, x.next);
     Regs {
         made: r.made,
         trail: r.trail,
-        cells: cells + 1,
+        cells: cell + 1,
         programs: r.programs,
         alternatives: r.alternatives,
-        cell: cells,
+        cell: cell,
         taken: r.taken + p.rules,
         supposed: r.supposed,
         solving: true,

@@ -29,7 +29,7 @@ returns-2 c = goal-spent (not-false _ (c .before .if1 .left)) (c .if2 .taken)
 
 -- src/lib.rt:150:5
 take-requires : tie.Need-take-requires
-take-requires c κs = let p = c .before .before .before .before .before .before .pre in let A = p .0 .0 in let s = not-false _ (c .before .before .if1 .left) in (readable _ A, ((A .formed, own-ready _ A, p .0 .1), ((s, due-no _ (p .1 .0) s, omega (arith, c .before .if2 .left)), p .1 .1)))
+take-requires c κs = let p = c .before .before .before .before .before .before .pre in let A = p .0 .0 in let s = not-false _ (c .before .before .if1 .left) in (readable _ A, ((A, own-ready _ A, p .0 .1), ((s, due-no _ (p .1 .0) s, omega (arith, c .before .if2 .left)), p .1 .1)))
 
 -- src/lib.rt:138:1
 same-length-2 : tie.Need-same-length-2

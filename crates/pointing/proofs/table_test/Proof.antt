@@ -23,7 +23,7 @@ cast-n c = omega arith
 -- src/lib.rt:157:5
 mark-requires : tie.Need-mark-requires
 unfolding records
-mark-requires c κs = omega arith
+mark-requires c κs = let s = c .before .before .before in let a = s .pre .2 in (omega arith, omega arith, s .pre .4)
 
 -- src/lib.rt:158:33
 sub-lowest-not-once : tie.Need-sub-lowest-not-once
@@ -33,7 +33,11 @@ sub-lowest-not-once c = omega arith
 -- src/lib.rt:158:9
 lowest-not-once-requires : tie.Need-lowest-not-once-requires
 unfolding records
-lowest-not-once-requires c κs = omega arith
+lowest-not-once-requires c κs =
+    let s = c .before .before .before .before .before .before .before in
+    let k : length (c .before .before .before .mark .last .1 .1 .0) ≡ length (s .args .ws .now) = search needs in
+    let p : records (s .args .book .now) ≤ length (s .args .ws .now) = s .pre .2 in
+    (omega arith, omega arith)
 
 -- src/lib.rt:159:5
 clear-requires : tie.Need-clear-requires

@@ -1,6 +1,7 @@
 use mathlib.Core.Path.{_≡_, sym, _∙_}
+use native.Mathlib.Omega.{arith}
 use borrow.Author.Tests.{not-true, not-false}
-use Rattle.refusals.proofs.PassLaws.{look-past, look-four, look-kept, look-five, look-on}
+use Rattle.refusals.proofs.PassLaws.{readable, look-past, look-four, look-kept, look-five, look-on}
 use borrow.Author.Needs.{needs}
 use Rattle.refusals.proofs.look.Statement.{statement}
 use Rattle.refusals.proofs.look.Tie as tie
@@ -27,7 +28,7 @@ returns-3 c = let s = c .before .before .before .before .before .before .before 
 
 -- src/lib.rt:38:9
 targets-fit-requires : tie.Need-targets-fit-requires
-targets-fit-requires c κs = search needs
+targets-fit-requires c κs = let s = c .before .before .before .before .before .before .before in (s .args .i, readable (s .args .book .now) (s .args .n) (s .args .i) (s .pre .3) (omega arith) (s .args .was) (c .before .before .before .before .if1 .left) (s .pre .2), sym (c .before .before .before .fields-fit .ensures) ∙ not-false _ (c .before .before .if2 .left))
 
 -- src/lib.rt:39:9
 returns-4 : tie.Need-returns-4

@@ -3,18 +3,28 @@ use mathlib.Core.Path.{_≡_, refl, sym, _∙_, ap}
 use mathlib.Core.List.{List}
 use Prim.Native.Nat.{ℕ, _+_, _-_, _*_, _/_, _%_, _≤_, _<_}
 use native.Mathlib.Omega.{arith}
-use native.Mathlib.Nat.{add-zero}
 use lib.ListN.{length, getD, set}
 use Rattle.book.specs.Records.{field}
 use Rattle.words.specs.Words.{baseOf}
 use Rattle.words.specs.Readable.{Readable}
 use Rattle.words.proofs.StackLaws.{keeps-refl}
 use Rattle.unifier.specs.declared.ToPair.{ToPair}
-use Rattle.unifier.specs.declared.PairStep.the-variants.{Next, TooMany}
+use Rattle.unifier.specs.declared.PairStep.the-variants.{Into, Past, TooMany}
 use Rattle.unifier.specs.Runs.{runWord, firstOf, countOf, GoodRun, TermAt}
-use Rattle.unifier.specs.PairRuns.{pairWords, waitingPairs, pairListOf, pastPairs, GoodTwo, Paired, PairPast, PairedInto, PairedInto.paired, PairedInto.overfull}
+use Rattle.unifier.specs.PairRuns.{pairWords, waitingPairs, pairListOf, pastPairs, GoodTwo, Paired, PairPast, PairedInto, PairedInto.paired, PairedInto.alike, PairedInto.overfull}
 use Rattle.unifier.proofs.RunLaws.{first-run, count-run, base-run, run-rest, run-empty, term-run}
 use Rattle.unifier.proofs.PairRunLaws.{both-none, words-length, twos-most, twos-last, two-keeps, twos-push, twos-good, past-length, pairs-none, paired-start}
+
+-- symbol and argument count of two records, each two as one number
+module _ (book : List ℕ) (r q x y : ℕ) (X : (x ≡ field book r 1 + 65536 * field book r 2) × (field book r 1 < 65536)) (Y : (y ≡ field book q 1 + 65536 * field book q 2) × (field book q 1 < 65536)) where
+  pub both-same : x ≡ y → (field book r 1 ≡ field book q 1) × (field book r 2 ≡ field book q 2)
+  both-same e = (omega (arith, X .0, X .1, Y .0, Y .1), omega (arith, X .0, X .1, Y .0, Y .1))
+
+  pub both-apart : (x ≡ y → ⊥) → field book r 1 ≡ field book q 1 → field book r 2 ≡ field book q 2 → ⊥
+  both-apart n e d = n (omega (arith, X .0, Y .0))
+
+  pub both-count : x / 65536 ≡ field book r 2
+  both-count = omega (arith, X .0, X .1)
 
 module _ (book : List ℕ) (made : ℕ) (mm : made ≤ 2048) (ws : List ℕ) (s : ToPair) (L : Paired book made ws s) (h : 0 < s .count) where
   pub deep : s .depth < 256
@@ -83,8 +93,8 @@ module _ (book : List ℕ) (made : ℕ) (mm : made ≤ 2048) (ws : List ℕ) (s 
   -- THE ARGUMENT PAIRS OF THE FIRST PAIR IN ITS PLACE
   module _ (R : Readable book) (r b q c trail : ℕ) (T : TermAt book made r b) (U : TermAt book made q c) (se : field book r 1 ≡ field book q 1) (ce : field book r 2 ≡ field book q 2)
       (m : ℕ) (me : m ≡ field book r 2) where
-    pub into-none : m ≡ 0 → (x : ToPair) → PairPast book made ws s x → PairedInto book made ws ws s r b q c trail (Next x trail)
-    into-none e x p = paired se ce (keeps-refl 0 15616 ws) (p .listed) (p .same ∙ sym (both-none book b (field book r 3) c (field book q 3) (field book r 2) (pastPairs book ws s) (sym me ∙ e)))
+    pub into-none : m ≡ 0 → PairedInto book made ws ws s r b q c trail (Past trail)
+    into-none e = alike refl se ce (sym me ∙ e)
 
     pub into-over : 256 < s .waiting + (s .count - 1) + m → PairedInto book made ws ws s r b q c trail TooMany
     into-over l = overfull refl se ce (omega (arith, past-length book ws s, L .total))
@@ -97,16 +107,15 @@ module _ (book : List ℕ) (made : ℕ) (mm : made ≤ 2048) (ws : List ℕ) (s 
       right-run = rw (ge, me, ce) (term-run book R made q c U)
 
       pub into-hand : s .count ≡ 1
-          → PairedInto book made ws ws s r b q c trail (Next (record { first = f; base = b; other = g; beside = c; count = m; depth = s .depth; waiting = s .waiting + (s .count - 1) }) trail)
+          → PairedInto book made ws ws s r b q c trail (Into (record { first = f; base = b; other = g; beside = c; count = m; depth = s .depth; waiting = s .waiting }))
       unfolding pairListOf
       into-hand e =
-          let z : s .count - 1 ≡ 0 = omega arith in
-          paired {x = record { first = f; base = b; other = g; beside = c; count = m; depth = s .depth; waiting = s .waiting + (s .count - 1) }} se ce (keeps-refl 0 15616 ws)
+          paired {x = record { first = f; base = b; other = g; beside = c; count = m; depth = s .depth; waiting = s .waiting }} se ce (keeps-refl 0 15616 ws)
           (record {
             left = left-run;
             right = right-run;
             waits = L .waits;
-            total = rw z (rw (add-zero (s .waiting)) (L .total));
+            total = L .total;
             most = omega arith;
             ends = λ q. absurd (some q);
           })
@@ -146,7 +155,7 @@ module _ (book : List ℕ) (made : ℕ) (mm : made ≤ 2048) (ws : List ℕ) (s 
 
         pushed : length ws ≡ 16384 → (s .count ≡ 1 → ⊥)
             → PairedInto book made ws (set (set ws (15616 + 2 * s .depth) x) (15616 + 2 * s .depth + 1) y) s r b q c trail
-            (Next (record { first = f; base = b; other = g; beside = c; count = m; depth = s .depth + 1; waiting = s .waiting + (s .count - 1) }) trail)
+            (Into (record { first = f; base = b; other = g; beside = c; count = m; depth = s .depth + 1; waiting = s .waiting + (s .count - 1) }))
         unfolding pairListOf
         pushed size e =
             let z : 15616 + 2 * s .depth + 1 < length ws = omega (arith, deep) in
@@ -167,6 +176,6 @@ module _ (book : List ℕ) (made : ℕ) (mm : made ≤ 2048) (ws : List ℕ) (s 
       pub into-push : length ws ≡ 16384 → (s .count ≡ 1 → ⊥)
           → PairedInto book made ws
           (set (set ws (15616 + 2 * s .depth) (65536 * (s .first + 1) + (4096 * (s .count - 1) + s .base))) (15616 + 2 * s .depth + 1) (65536 * (s .other + 1) + (4096 * (s .count - 1) + s .beside)))
-          s r b q c trail (Next (record { first = f; base = b; other = g; beside = c; count = m; depth = s .depth + 1; waiting = s .waiting + (s .count - 1) }) trail)
+          s r b q c trail (Into (record { first = f; base = b; other = g; beside = c; count = m; depth = s .depth + 1; waiting = s .waiting + (s .count - 1) }))
       unfolding runWord
       into-push size e = pushed _ _ refl refl size e

@@ -20,8 +20,9 @@ use Rattle.words.proofs.TextLaws.{term-app}
 use Rattle.words.proofs.StackLaws.{run-first, spread-length, run-count, keeps-set}
 use Rattle.unifier.specs.Values.{LinkAt}
 use Rattle.unifier.specs.declared.ToLook.{ToLook}
-use Rattle.unifier.specs.declared.LookStep.the-variants.{On, Full}
-use Rattle.unifier.specs.Runs.{runWord, firstOf, countOf, runTerms, waitingOf, listOf, pastOf, GoodRun, GoodWait, Listed, Past, TermAt, LookedInto, LookedInto.into, LookedInto.into-full}
+use Rattle.unifier.specs.declared.LookStep.{LookStep}
+use Rattle.unifier.specs.declared.LookStep.the-variants.{On, Over, Full}
+use Rattle.unifier.specs.Runs.{runWord, firstOf, countOf, runTerms, waitingOf, listOf, pastOf, GoodRun, GoodWait, Listed, Leaves, Leaves.some-left, Leaves.none-left, TermAt, HasRun, LookedInto, LookedInto.into, LookedInto.into-full}
 
 -- THE WORD OF A RUN
 module _ (first m b : ℕ) (mm : m < 16) (bb : b < 4096) where
@@ -89,6 +90,9 @@ arguments-run book R made r b h bb l = record {
 pub term-run : (book : List ℕ) → Readable book → (made r b : ℕ) → TermAt book made r b → GoodRun book made b (field book r 3) (field book r 2)
 term-run book R made r b g = arguments-run book R made r b (g .term .0, inl (g .term .1)) (g .base) (rw (term-app book R r b (g .term)) at (g .below))
 
+pub run-same : {book : List ℕ} {r q first m : ℕ} → r ≡ q → HasRun book q first m → HasRun book r first m
+run-same e h = rw e h
+
 -- RUNS THAT WAIT
 pub waits-same : (book : List ℕ) (d : ℕ) (ws ws′ : List ℕ) → ((k : ℕ) → k < d → getD ws′ (16128 + k) 0 ≡ getD ws (16128 + k) 0) → waitingOf book ws′ d ≡ waitingOf book ws d
 unfolding waitingOf
@@ -136,40 +140,34 @@ pub list-first : (book ws : List ℕ) (s : ToLook) → 0 < s .count → listOf b
 unfolding listOf pastOf
 list-first book ws s h = run-next book (s .base) (s .first) (s .count) (waitingOf book ws (s .depth)) h
 
-pub list-none : (book ws : List ℕ) (s : ToLook) → s .count ≡ 0 → s .depth ≡ 0 → listOf book ws s ≡ []
-unfolding listOf waitingOf
-list-none book ws s c d = run-none book (s .base) (s .first) (s .count) (waitingOf book ws (s .depth)) c ∙ rw d refl
-
 -- a run of no links
 pub run-empty : (book : List ℕ) (made : ℕ) → GoodRun book made 0 0 0
 unfolding textsFrom fills
 run-empty book made = record { base = omega arith; most = omega arith; links = omega arith; low = omega arith; run = ((λ k l u. absurd (omega arith)), tt) }
 
-module _ (book : List ℕ) (made : ℕ) (mm : made ≤ 2048) (ws : List ℕ) (s : ToLook) (L : Listed book made ws s) (h : 0 < s .count) where
+module _ (book : List ℕ) (made : ℕ) (mm : made ≤ 2048) (ws : List ℕ) (s : ToLook) (L : Listed book made ws s) where
   pub deep : s .depth < 256
-  deep = omega (arith, waits-most book made ws (s .depth) (L .waits), L .total, L .most)
+  deep = omega (arith, waits-most book made ws (s .depth) (L .waits), L .total, L .most, L .some)
 
-  pub past-hand : 1 < s .count → Past book made ws s (record { first = s .first + 1; count = s .count - 1; base = s .base; depth = s .depth; waiting = s .waiting })
+  pub past-hand : 1 < s .count → Leaves book made ws (pastOf book ws s) (On (record { first = s .first + 1; count = s .count - 1; base = s .base; depth = s .depth; waiting = s .waiting }))
   unfolding listOf pastOf
-  past-hand g = record {
-    listed = record {
-      hand = run-rest book made mm (s .base) (s .first) (s .count) h (L .hand);
-      waits = L .waits;
-      total = L .total;
-      most = omega (arith, L .most);
-      ends = λ e. absurd (omega arith);
-    };
-    same = refl;
-  }
+  past-hand g = some-left {x = record { first = s .first + 1; count = s .count - 1; base = s .base; depth = s .depth; waiting = s .waiting }}
+      (record {
+        hand = run-rest book made mm (s .base) (s .first) (s .count) (L .some) (L .hand);
+        waits = L .waits;
+        total = L .total;
+        most = omega (arith, L .most);
+        some = omega arith;
+      })
+      refl
 
-  pub past-none : s .count ≤ 1 → s .depth ≡ 0 → Past book made ws s (record { first = 0; count = 0; base = 0; depth = 0; waiting = 0 })
-  unfolding waitingOf listOf pastOf
-  past-none g e =
-      let c : s .count - 1 ≡ 0 = omega arith in
-      record {
-        listed = record { hand = run-empty book made; waits = λ k l. absurd (omega arith); total = refl; most = omega arith; ends = λ q. refl };
-        same = run-none book 0 0 0 [] refl ∙ sym (run-none book (s .base) (s .first + 1) (s .count - 1) (waitingOf book ws (s .depth)) c ∙ rw e refl);
-      }
+  past-waits : s .count ≤ 1 → pastOf book ws s ≡ waitingOf book ws (s .depth)
+  unfolding pastOf
+  past-waits g = run-none book (s .base) (s .first + 1) (s .count - 1) (waitingOf book ws (s .depth)) (omega arith)
+
+  pub past-none : s .count ≤ 1 → s .depth ≡ 0 → Leaves book made ws (pastOf book ws s) Over
+  unfolding waitingOf
+  past-none g e = none-left (past-waits g ∙ rw e refl)
 
   module _ (d : 0 < s .depth) (x : ℕ) (xe : x ≡ getD ws (16128 + (s .depth - 1)) 0) where
     pop-wait : GoodWait book made x
@@ -185,45 +183,43 @@ module _ (book : List ℕ) (made : ℕ) (mm : made ≤ 2048) (ws : List ℕ) (s 
     unfolding countOf
     pop-most = omega (arith, pop-total)
 
-    popped : s .count ≤ 1 → Past book made ws s (record { first = firstOf x; count = countOf x; base = baseOf x; depth = s .depth - 1; waiting = s .waiting - countOf x })
-    unfolding listOf pastOf
-    popped g =
-        let c : s .count - 1 ≡ 0 = omega arith in
-        record {
-          listed = record {
-            hand = pop-wait .good;
-            waits = λ k l. L .waits k (omega arith);
-            total = omega (arith, pop-total);
-            most = omega (arith, pop-total, L .most);
-            ends = λ e. absurd (omega (arith, pop-wait .some));
-          };
-          same = sym (run-none book (s .base) (s .first + 1) (s .count - 1) (waitingOf book ws (s .depth)) c ∙ pop-list);
-        }
+    popped : s .count ≤ 1 → Leaves book made ws (pastOf book ws s) (On (record { first = firstOf x; count = countOf x; base = baseOf x; depth = s .depth - 1; waiting = s .waiting - countOf x }))
+    unfolding listOf
+    popped g = some-left {x = record { first = firstOf x; count = countOf x; base = baseOf x; depth = s .depth - 1; waiting = s .waiting - countOf x }}
+        (record {
+          hand = pop-wait .good;
+          waits = λ k l. L .waits k (omega arith);
+          total = omega (arith, pop-total);
+          most = omega (arith, pop-total, L .most);
+          some = pop-wait .some;
+        })
+        (sym (past-waits g ∙ pop-list))
 
-    pub past-pop : s .count ≤ 1 → Past book made ws s (record { first = x / 65536; count = x / 4096 % 16; base = x % 4096; depth = s .depth - 1; waiting = s .waiting - x / 4096 % 16 })
+    pub past-pop : s .count ≤ 1
+        → Leaves book made ws (pastOf book ws s) (On (record { first = x / 65536; count = x / 4096 % 16; base = x % 4096; depth = s .depth - 1; waiting = s .waiting - x / 4096 % 16 }))
     unfolding firstOf countOf baseOf
     past-pop g = popped g
 
   -- THE ARGUMENTS OF THE FIRST TERM IN ITS PLACE
-  module _ (R : Readable book) (r b : ℕ) (T : TermAt book made r b) (m : ℕ) (me : m ≡ field book r 2) where
-    pub into-none : m ≡ 0 → (x : ToLook) → Past book made ws s x → LookedInto book made ws ws s r b (On x)
-    into-none e x p = into (p .listed) (p .same ∙ sym (run-none book b (field book r 3) (field book r 2) (pastOf book ws s) (sym me ∙ e)))
+  module _ (r b m : ℕ) (me : m ≡ field book r 2) where
+    pub into-none : m ≡ 0 → (o : LookStep) → Leaves book made ws (pastOf book ws s) o → LookedInto book made ws ws s r b o
+    into-none e o p = into {o = o} (rw (run-none book b (field book r 3) (field book r 2) (pastOf book ws s) (sym me ∙ e)) p)
 
     pub into-over : 256 < s .waiting + (s .count - 1) + m → LookedInto book made ws ws s r b Full
     into-over l = into-full (omega (arith, past-length book ws s, L .total))
 
-    arguments : GoodRun book made b (field book r 3) m
-    arguments = rw me (term-run book R made r b T)
+  module _ (R : Readable book) (r b : ℕ) (T : TermAt book made r b) (f m : ℕ) (H : HasRun book r f m) where
+    arguments : GoodRun book made b f m
+    arguments = rw (H .start, H .many) (term-run book R made r b T)
 
-    module _ (some : m ≡ 0 → ⊥) (l : s .waiting + (s .count - 1) + m ≤ 256) (f : ℕ) (fe : f ≡ field book r 3) where
-      pub into-hand : s .count ≡ 1 → LookedInto book made ws ws s r b (On (record { first = f; count = m; base = b; depth = s .depth; waiting = s .waiting + (s .count - 1) }))
-      unfolding listOf pastOf
-      into-hand e =
-          let c : s .count - 1 ≡ 0 = omega arith in
-          into {x = record { first = f; count = m; base = b; depth = s .depth; waiting = s .waiting + (s .count - 1) }}
-          (record { hand = rw fe arguments; waits = L .waits; total = rw c (rw (add-zero (s .waiting)) (L .total)); most = omega arith; ends = λ q. absurd (some q) })
-          (rw (fe, me, run-none book (s .base) (s .first + 1) (s .count - 1) (waitingOf book ws (s .depth)) c) refl)
+    pub into-hand : s .count ≡ 1 → s .waiting + m ≤ 256 → LookedInto book made ws ws s r b (On (record { first = f; count = m; base = b; depth = s .depth; waiting = s .waiting }))
+    unfolding listOf
+    into-hand e l = into
+        (some-left {x = record { first = f; count = m; base = b; depth = s .depth; waiting = s .waiting }}
+        (record { hand = arguments; waits = L .waits; total = L .total; most = omega arith; some = H .some })
+        (rw (H .start, H .many, past-waits (omega arith)) refl))
 
+    module _ (l : s .waiting + (s .count - 1) + m ≤ 256) where
       pub into-push : length ws ≡ 16384 → (s .count ≡ 1 → ⊥) → Keeps 0 16128 ws (set ws (16128 + s .depth) (65536 * (s .first + 1) + (4096 * (s .count - 1) + s .base)))
           × LookedInto book made ws (set ws (16128 + s .depth) (65536 * (s .first + 1) + (4096 * (s .count - 1) + s .base))) s r b
           (On (record { first = f; count = m; base = b; depth = s .depth + 1; waiting = s .waiting + (s .count - 1) }))
@@ -236,18 +232,19 @@ module _ (book : List ℕ) (made : ℕ) (mm : made ≤ 2048) (ws : List ℕ) (s 
           waits-push book ws (s .depth) x (omega arith)
           ∙ rw (first-run (s .first + 1) (s .count - 1) (s .base) c (L .hand .base), count-run (s .first + 1) (s .count - 1) (s .base) c (L .hand .base), base-run (s .first + 1) (s .count - 1) (s .base) c (L .hand .base)) refl in
           let g : GoodWait book made x = record {
-            some = rw (count-run (s .first + 1) (s .count - 1) (s .base) c (L .hand .base)) (omega arith);
+            some = rw (count-run (s .first + 1) (s .count - 1) (s .base) c (L .hand .base)) (omega (arith, L .some));
             good = rw (first-run (s .first + 1) (s .count - 1) (s .base) c (L .hand .base), count-run (s .first + 1) (s .count - 1) (s .base) c (L .hand .base), base-run (s .first + 1) (s .count - 1) (s .base) c (L .hand .base))
-                (run-rest book made mm (s .base) (s .first) (s .count) h (L .hand));
+                (run-rest book made mm (s .base) (s .first) (s .count) (L .some) (L .hand));
           } in (
             keeps-set 0 16128 ws (16128 + s .depth) x (inr (omega arith)),
-            into {x = record { first = f; count = m; base = b; depth = s .depth + 1; waiting = s .waiting + (s .count - 1) }}
+            into
+                (some-left {x = record { first = f; count = m; base = b; depth = s .depth + 1; waiting = s .waiting + (s .count - 1) }}
                 (record {
-                  hand = rw fe arguments;
+                  hand = arguments;
                   waits = waits-good book made ws (s .depth) x (omega arith) (L .waits) g;
                   total = omega (arith, ap length w, run-length book (s .base) (s .first + 1) (s .count - 1) (waitingOf book ws (s .depth)), L .total);
                   most = omega arith;
-                  ends = λ q. absurd (some q);
+                  some = H .some;
                 })
-                (rw (w, fe, me) refl),
+                (rw (w, H .start, H .many) refl)),
           )

@@ -12,7 +12,7 @@ use Rattle.words.specs.Readable.{Readable, TextRec}
 use Rattle.words.specs.Good.{Below, Good, GoodTerm, Slots, ReadThrough}
 use Rattle.words.proofs.PackLaws.{rec-pack, base-pack, pack-large, base-small}
 use Rattle.words.proofs.ReadLaws.{word-for-var}
-use Rattle.words.proofs.TextLaws.{term-app}
+use Rattle.words.proofs.TextLaws.{term-app, term-var}
 use Rattle.words.proofs.SlotLaws.{word-var, word-large, good-var, good-term}
 use Rattle.words.proofs.StackLaws.{word-says}
 use Rattle.unifier.specs.declared.Value.{Value}
@@ -59,15 +59,15 @@ module _ (book : List ℕ) (R : Readable book) (made : ℕ) (ws : List ℕ) (S :
       here = record { term = (text-here .0 .0, two (text-here .0 .1)); base = L .base; below = text-here .1 }
 
   module _ (ve : field book t 0 ≡ 1) (o : ℕ) (oe : o ≡ field book t 1) where
-    var-here : (termW book (b + o + 1) ≡ termOf book t b) × Good book made (b + o + 1)
-    var-here = rw oe (rw (word-for-var book b t ve) at (word-says book made (S .room) b t (L .base) (text-here .0) (text-here .1)))
+    var-here : termW book (b + o + 1) ≡ termOf book t b
+    var-here = rw oe (rw (word-for-var book b t ve) at (word-says book made (S .room) b t (L .base) (text-here .0) (text-here .1) .0))
 
-    pub var-good : Good book made (b + o + 1)
-    var-good = var-here .1
+    pub var-below : b + o < made
+    var-below = rw oe (rw (term-var book t b ve) at (text-here .1))
 
     module _ (w : ℕ) (rt : ReadThrough book made ws (b + o + 1) w) where
       var-walk : walk (storeOf book ws made) (termOf book (field book k 1) b) ≡ termW book w
-      var-walk = rw (← te, ← (var-here .0)) (rt .walked)
+      var-walk = rw (← te, ← var-here) (rt .walked)
 
       pub value-open : w < 4096 → ValueOf book made ws (termOf book (field book k 1) b) (Open w)
       value-open h = is-open {v = w} (record { walked = var-walk ∙ word-var book w h; good = good-var book made w (rt .good) h; unbound = rt .unbound h })

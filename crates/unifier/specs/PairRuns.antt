@@ -9,7 +9,7 @@ use Rattle.words.specs.Words.{baseOf}
 use Rattle.words.specs.Frame.{Keeps}
 use Rattle.unifier.specs.declared.ToPair.{ToPair}
 use Rattle.unifier.specs.declared.PairStep.{PairStep}
-use Rattle.unifier.specs.declared.PairStep.the-variants.{Next, Apart, TooMany}
+use Rattle.unifier.specs.declared.PairStep.the-variants.{Into, Past, Apart, TooMany}
 use Rattle.unifier.specs.Runs.{firstOf, countOf, runTerms, GoodRun}
 
 -- the pairs of two runs of m links, at the front of a list
@@ -55,7 +55,8 @@ pub record PairPast (book : List ℕ) (made : ℕ) (ws : List ℕ) (s r : ToPair
 pub data PairedInto (book : List ℕ) (made : ℕ) (ws ws′ : List ℕ) (s : ToPair) (r b q c trail : ℕ) : PairStep → Type 0 where
   paired : {x : ToPair} → field book r 1 ≡ field book q 1 → field book r 2 ≡ field book q 2 → Keeps 0 15616 ws ws′ → Paired book made ws′ x
       → pairListOf book ws′ x ≡ pairRun book b (field book r 3) c (field book q 3) (field book r 2) (pastPairs book ws s)
-      → PairedInto book made ws ws′ s r b q c trail (Next x trail)
+      → PairedInto book made ws ws′ s r b q c trail (Into x)
+  alike : ws′ ≡ ws → field book r 1 ≡ field book q 1 → field book r 2 ≡ field book q 2 → field book r 2 ≡ 0 → PairedInto book made ws ws′ s r b q c trail (Past trail)
   unpaired : ws′ ≡ ws → (field book r 1 ≡ field book q 1 → field book r 2 ≡ field book q 2 → ⊥) → PairedInto book made ws ws′ s r b q c trail Apart
   overfull : ws′ ≡ ws → field book r 1 ≡ field book q 1 → field book r 2 ≡ field book q 2 → 256 < field book r 2 + length (pastPairs book ws s)
       → PairedInto book made ws ws′ s r b q c trail TooMany

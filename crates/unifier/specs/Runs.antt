@@ -12,7 +12,7 @@ use Rattle.words.specs.Good.{Below}
 use Rattle.words.proofs.StackLaws.{RunOf}
 use Rattle.unifier.specs.declared.ToLook.{ToLook}
 use Rattle.unifier.specs.declared.LookStep.{LookStep}
-use Rattle.unifier.specs.declared.LookStep.the-variants.{On, Full}
+use Rattle.unifier.specs.declared.LookStep.the-variants.{On, Over, Full}
 
 -- the word of a run of m links from `first`, with its variables from number b on, and its numbers
 unfoldable pub runWord : ℕ → ℕ → ℕ → ℕ
@@ -59,11 +59,12 @@ pub record Listed (book : List ℕ) (made : ℕ) (ws : List ℕ) (s : ToLook) : 
   pub waits : (k : ℕ) → k < s .depth → GoodWait book made (getD ws (16128 + k) 0)
   pub total : s .waiting ≡ length (waitingOf book ws (s .depth))
   pub most : s .waiting + s .count ≤ 256
-  pub ends : s .count ≡ 0 → s .depth ≡ 0
+  pub some : 0 < s .count
 
-pub record Past (book : List ℕ) (made : ℕ) (ws : List ℕ) (s r : ToLook) : Type 0 where
-  pub listed : Listed book made ws r
-  pub same : listOf book ws r ≡ pastOf book ws s
+-- what a step leaves of the list is l
+pub data Leaves (book : List ℕ) (made : ℕ) (ws : List ℕ) (l : List Term) : LookStep → Type 0 where
+  some-left : {x : ToLook} → Listed book made ws x → listOf book ws x ≡ l → Leaves book made ws l (On x)
+  none-left : l ≡ [] → Leaves book made ws l Over
 
 -- the text of record r with its variables from number b on is a term of the branch
 pub record TermAt (book : List ℕ) (made r b : ℕ) : Type 0 where
@@ -71,8 +72,13 @@ pub record TermAt (book : List ℕ) (made r b : ℕ) : Type 0 where
   pub base : b < 4096
   pub below : Below made (termOf book r b)
 
+-- record r has arguments: the targets of m links from `first`
+pub record HasRun (book : List ℕ) (r first m : ℕ) : Type 0 where
+  pub start : first ≡ field book r 3
+  pub many : m ≡ field book r 2
+  pub some : 0 < m
+
 -- the first term's arguments, those of record r at base b, in its place
 pub data LookedInto (book : List ℕ) (made : ℕ) (ws ws′ : List ℕ) (s : ToLook) (r b : ℕ) : LookStep → Type 0 where
-  into : {x : ToLook} → Listed book made ws′ x → listOf book ws′ x ≡ spread (runTerms book b (field book r 3) (field book r 2)) (pastOf book ws s)
-      → LookedInto book made ws ws′ s r b (On x)
+  into : {o : LookStep} → Leaves book made ws′ (spread (runTerms book b (field book r 3) (field book r 2)) (pastOf book ws s)) o → LookedInto book made ws ws′ s r b o
   into-full : 256 < field book r 2 + length (pastOf book ws s) → LookedInto book made ws ws′ s r b Full

@@ -1,13 +1,13 @@
 use native.Mathlib.Omega.{arith}
 use mathlib.Core.Path.{_∙_}
-use Rattle.unifier.proofs.ValueLaws.{value-term, var-good, value-open, value-word}
+use Rattle.unifier.proofs.ValueLaws.{value-term, var-below, value-open, value-word}
 use borrow.Author.Needs.{needs}
 use Rattle.unifier.proofs.value_of.Statement.{statement}
 use Rattle.unifier.proofs.value_of.Tie as tie
 use Rattle.unifier.proofs.value_of.Reads as reads
 use Rattle.unifier.proofs.value_of.Lts as lts
 use Rattle.words.proofs.field.Reads as field-reads
-use Rattle.words.proofs.read_through.Reads as read-through-reads
+use Rattle.words.proofs.read_variable.Reads as read-variable-reads
 
 -- src/lib.rt:45:9
 field-requires : tie.Need-field-requires
@@ -26,28 +26,24 @@ field-requires-3 : tie.Need-field-requires-3
 field-requires-3 c κs = search needs
 
 -- src/lib.rt:50:49
-add-read-through : tie.Need-add-read-through
-add-read-through c = search needs
-
--- src/lib.rt:50:49
-add-read-through-2 : tie.Need-add-read-through-2
-add-read-through-2 c = search needs
+add-read-variable : tie.Need-add-read-variable
+add-read-variable c = search needs
 
 -- src/lib.rt:50:9
-read-through-requires : tie.Need-read-through-requires
-read-through-requires c κs = let p = c .before .before .before .before .before .before .pre in (p .0, (p .1 .0, var-good _ (p .0) _ _ (p .1 .0) _ _ (p .1 .1) _ (c .before .before .before .field .ensures .0) (omega (arith, c .before .before .field2 .ensures .0, c .before .if1 .left)) _ (c .field3 .ensures .0)))
+read-variable-requires : tie.Need-read-variable-requires
+read-variable-requires c κs = let p = c .before .before .before .before .before .before .pre in (p .0, (p .1 .0, var-below _ (p .0) _ _ (p .1 .0) _ _ (p .1 .1) _ (c .before .before .before .field .ensures .0) (omega (arith, c .before .before .field2 .ensures .0, c .before .if1 .left)) _ (c .field3 .ensures .0)))
 
 -- src/lib.rt:52:9
 returns-2 : tie.Need-returns-2
-returns-2 c = let p = c .before .before .before .before .before .before .before .before .pre in value-open _ (p .0) _ _ (p .1 .0) _ _ (p .1 .1) _ (c .before .before .before .before .before .field .ensures .0) (omega (arith, c .before .before .before .before .field2 .ensures .0, c .before .before .before .if1 .left)) _ (c .before .before .field3 .ensures .0) _ (c .before .read-through .ensures) (c .if2 .taken)
+returns-2 c = let p = c .before .before .before .before .before .before .before .before .pre in value-open _ (p .0) _ _ (p .1 .0) _ _ (p .1 .1) _ (c .before .before .before .before .before .field .ensures .0) (omega (arith, c .before .before .before .before .field2 .ensures .0, c .before .before .before .if1 .left)) _ (c .before .before .field3 .ensures .0) _ (c .before .read-variable .ensures) (c .if2 .taken)
 
 -- src/lib.rt:54:15
-sub-t9 : tie.Need-sub-t9
-sub-t9 c = search needs
+sub-t11 : tie.Need-sub-t11
+sub-t11 c = search needs
 
 -- src/lib.rt:39:1
 returns-3 : tie.Need-returns-3
-returns-3 c = let p = c .before .before .before .before .before .before .before .before .pre in value-word _ (p .0) _ _ (p .1 .0) _ _ (p .1 .1) _ (c .before .before .before .before .before .field .ensures .0) (omega (arith, c .before .before .before .before .field2 .ensures .0, c .before .before .before .if1 .left)) _ (c .before .before .field3 .ensures .0) _ (c .before .read-through .ensures) (c .if2 .left)
+returns-3 c = let p = c .before .before .before .before .before .before .before .before .pre in value-word _ (p .0) _ _ (p .1 .0) _ _ (p .1 .1) _ (c .before .before .before .before .before .field .ensures .0) (omega (arith, c .before .before .before .before .field2 .ensures .0, c .before .before .before .if1 .left)) _ (c .before .before .field3 .ensures .0) _ (c .before .read-variable .ensures) (c .if2 .left)
 
 pub value-of-spec : {M : Type 1} → statement M
 value-of-spec =
@@ -57,9 +53,8 @@ value-of-spec =
     field-requires-2
     returns
     field-requires-3
-    add-read-through
-    add-read-through-2
-    read-through-requires
+    add-read-variable
+    read-variable-requires
     returns-2
-    sub-t9
+    sub-t11
     returns-3)

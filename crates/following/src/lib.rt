@@ -55,7 +55,7 @@ fn plain_body(book: &[u8], ws: &[u32], first: u32, n: u32, g: u32) -> u32
     if j < n {
         return 0;
     }
-    let c = words::field(book, first + i, 1);
+    let c = index::clause_at(book, ws, first, n, f, i);
     plain_clause(book, c)
 }
 

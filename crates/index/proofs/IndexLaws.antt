@@ -3,11 +3,11 @@ use mathlib.Core.Path.{_≡_, refl, sym, _∙_, ap}
 use mathlib.Core.Logic.{_⊎_, inl, inr}
 use mathlib.Core.Bool.{Bool, true, false, _&&_}
 use mathlib.Core.List.{List}
-use Prim.Native.Nat.{ℕ, zero, suc, _+_, _-_, _*_, _%_, _≤_, _<_}
+use Prim.Native.Nat.{ℕ, zero, suc, _+_, _-_, _*_, _/_, _%_, _≤_, _<_}
 use native.Mathlib.Omega.{arith}
 use native.Mathlib.Decide.{decLt, ℕ-discrete}
 use native.Mathlib.Nat.{add-zero}
-use borrow.Author.Tests.{eq-eqb, ne-eqb, eqb-true}
+use borrow.Author.Tests.{eq-eqb, ne-eqb, eqb-true, lt-ltb, le-ltb}
 use lib.Dec.{eqb}
 use lib.ListN.{length, getD, set, length-set}
 use lib.Seq.{getD-set-same, getD-set-other}
@@ -15,7 +15,7 @@ use Rattle.book.specs.Records.{field}
 use Rattle.words.specs.Frame.{Keeps}
 use Rattle.words.proofs.StackLaws.{keeps-refl, keeps-trans, keeps-narrow, keeps-set}
 use Rattle.index.specs.Runs.{headMatches, nextMatch}
-use Rattle.index.specs.Index.{bucketOf, nextIn, Indexed, EmptyFrom, IndexedFrom, InBucket}
+use Rattle.index.specs.Index.{bucketOf, nextIn, entryOf, Indexed, EmptyFrom, IndexedFrom, InBucket}
 
 -- WHAT nextIn FINDS
 module _ (book : List ℕ) (first b : ℕ) where
@@ -84,6 +84,26 @@ module _ (book : List ℕ) (first n k r : ℕ) (h : k ≤ n) where
   pub skip-same : (f m : ℕ) → r ≡ nextIn book first (f % 1024) k (n - k) → nextMatch book f m first r (n - r) ≡ nextMatch book f m first k (n - k)
   skip-same f m e = rw e (sym (bucket-skips book first f m k (n - k) ∙ (let z : k + (n - k) ≡ n = omega arith in rw z refl)))
 
+-- THE WORD OF A CLAUSE
+module _ (book : List ℕ) (first n : ℕ) where
+  pub entry-here : (i : ℕ) → i < n → 4096 * field book (first + i) 1 + i ≡ entryOf book first n i
+  unfolding entryOf
+  entry-here i h = rw (entryOf, lt-ltb i n h) refl
+
+  entry-none : n ≡ entryOf book first n n
+  unfolding entryOf
+  entry-none = rw (entryOf, le-ltb n n (omega arith)) refl
+
+  pub entry-number : n ≤ 1024 → (i : ℕ) → i ≤ n → entryOf book first n i % 4096 ≡ i
+  entry-number m i h = go (decLt i n)
+    where
+      go : Dec (i < n) → entryOf book first n i % 4096 ≡ i
+      go (yes l) = rw (← entry-here i l) (omega arith)
+      go (no l) = let e : i ≡ n = omega arith in rw (e, ← entry-none) (omega arith)
+
+  pub entry-clause : n ≤ 1024 → (i : ℕ) → i < n → entryOf book first n i / 4096 ≡ field book (first + i) 1
+  entry-clause m i h = rw (← entry-here i h) (omega arith)
+
 -- EMPTYING
 pub empty-none : (n : ℕ) (ws : List ℕ) → EmptyFrom n 0 ws ws
 empty-none n ws = record { firsts = λ x h. absurd (omega arith); below = keeps-refl 0 4096 ws; above = keeps-refl (4096 + 0) 16384 ws }
@@ -103,7 +123,7 @@ empty-more n b ws ws₁ h l E = record {
 pub made-none : (book : List ℕ) (first n : ℕ) (ws ws₁ : List ℕ) → EmptyFrom n 1024 ws ws₁ → IndexedFrom book first n n ws₁ ws₁
 unfolding nextIn
 made-none book first n ws ws₁ E = record {
-  firsts = λ b h. E .firsts b h ∙ (let z : n - n ≡ 0 = omega arith in rw z refl);
+  firsts = λ b h. E .firsts b h ∙ (let z : n - n ≡ 0 = omega arith in rw z (entry-none book first n));
   nexts = λ j a b. absurd (omega arith);
   below = keeps-refl 0 4096 ws₁;
   between = keeps-refl 5120 (5120 + n) ws₁;
@@ -120,44 +140,45 @@ made-from book first n zero ws ws₁ ws₂ z E I = record {
 }
 made-from book first n (suc i) ws ws₁ ws₂ z E I = absurd (omega arith)
 
-module _ (book : List ℕ) (first n i : ℕ) (ws ws₁ : List ℕ) (l : length ws ≡ 16384) (m : n ≤ 1024) (h : i < n) (I : IndexedFrom book first n (i + 1) ws ws₁) (b : ℕ) (e : b ≡ bucketOf book first i) (c : b < 1024) where
+module _ (book : List ℕ) (first n i : ℕ) (ws ws₁ : List ℕ) (l : length ws ≡ 16384) (m : n ≤ 1024) (h : i < n) (I : IndexedFrom book first n (i + 1) ws ws₁) (b : ℕ) (e : b ≡ bucketOf book first i) (c : b < 1024)
+    (v : ℕ) (ve : v ≡ field book (first + i) 1) where
   size-here : length ws₁ ≡ 16384
   size-here = I .below .size ∙ l
 
   abbrev one : List ℕ
-  one = set ws₁ (5120 + i) (getD ws₁ (4096 + b) 0)
+  one = set ws₁ (5120 + i) (getD ws₁ (4096 + b) 0 % 4096)
 
   abbrev two : List ℕ
-  two = set one (4096 + b) i
+  two = set one (4096 + b) (4096 * v + i)
 
-  firsts-more : (x : ℕ) → x < 1024 → getD two (4096 + x) 0 ≡ nextIn book first x i (n - i)
+  firsts-more : (x : ℕ) → x < 1024 → getD two (4096 + x) 0 ≡ entryOf book first n (nextIn book first x i (n - i))
   firsts-more x a = go (decLt x b) (decLt b x)
     where
-      other : (x ≡ b → ⊥) → getD two (4096 + x) 0 ≡ nextIn book first x i (n - i)
+      other : (x ≡ b → ⊥) → getD two (4096 + x) 0 ≡ entryOf book first n (nextIn book first x i (n - i))
       other d =
-          getD-set-other one (4096 + b) (4096 + x) i 0 (λ z. d (omega (arith, z))) ∙ getD-set-other ws₁ (5120 + i) (4096 + x) (getD ws₁ (4096 + b) 0) 0 (λ z. omega arith)
-          ∙ I .firsts x a ∙ in-other book first x i n h (λ z. d (z ∙ sym e))
+          getD-set-other one (4096 + b) (4096 + x) _ 0 (λ z. d (omega (arith, z))) ∙ getD-set-other ws₁ (5120 + i) (4096 + x) _ 0 (λ z. omega arith)
+          ∙ I .firsts x a ∙ ap (entryOf book first n) (in-other book first x i n h (λ z. d (z ∙ sym e)))
 
-      go : Dec (x < b) → Dec (b < x) → getD two (4096 + x) 0 ≡ nextIn book first x i (n - i)
+      go : Dec (x < b) → Dec (b < x) → getD two (4096 + x) 0 ≡ entryOf book first n (nextIn book first x i (n - i))
       go (yes u) v = other (λ (z : x ≡ b). omega arith)
       go (no u) (yes v) = other (λ (z : x ≡ b). omega arith)
       go (no u) (no v) =
           let z : x ≡ b = omega arith in
-          rw z (getD-set-same one (4096 + b) i 0 (simp length-set (omega (arith, size-here)))) ∙ in-this book first x i n h (z ∙ e)
+          rw z (getD-set-same one (4096 + b) _ 0 (simp length-set (omega (arith, size-here)))) ∙ ap (λ (z : ℕ). 4096 * z + i) ve ∙ entry-here book first n i h ∙ ap (entryOf book first n) (in-this book first x i n h (z ∙ e))
 
   nexts-more : (j : ℕ) → i ≤ j → j < n → getD two (5120 + j) 0 ≡ nextIn book first (bucketOf book first j) (j + 1) (n - (j + 1))
-  nexts-more j u v = getD-set-other one (4096 + b) (5120 + j) i 0 (λ z. omega arith) ∙ go (decLt i j)
+  nexts-more j u v = getD-set-other one (4096 + b) (5120 + j) _ 0 (λ z. omega arith) ∙ go (decLt i j)
     where
       go : Dec (i < j) → getD one (5120 + j) 0 ≡ nextIn book first (bucketOf book first j) (j + 1) (n - (j + 1))
-      go (yes w) = getD-set-other ws₁ (5120 + i) (5120 + j) (getD ws₁ (4096 + b) 0) 0 (λ z. omega arith) ∙ I .nexts j (omega arith) v
+      go (yes w) = getD-set-other ws₁ (5120 + i) (5120 + j) _ 0 (λ z. omega arith) ∙ I .nexts j (omega arith) v
       go (no w) =
           let z : j ≡ i = omega arith in
-          rw z (getD-set-same ws₁ (5120 + i) (getD ws₁ (4096 + b) 0) 0 (omega (arith, size-here)) ∙ I .firsts b c ∙ ap (λ (x : ℕ). nextIn book first x (i + 1) (n - (i + 1))) e)
+          rw z (getD-set-same ws₁ (5120 + i) _ 0 (omega (arith, size-here)) ∙ ap (λ (x : ℕ). x % 4096) (I .firsts b c) ∙ entry-number book first n m _ (omega (arith, in-bounds book first b (i + 1) (n - (i + 1)) .1)) ∙ ap (λ (x : ℕ). nextIn book first x (i + 1) (n - (i + 1))) e)
 
   outside : (lo hi : ℕ) → (hi ≤ 4096) ⊎ (5120 + i < lo) ⊎ ((5120 ≤ lo) × (hi ≤ 5120 + i)) → Keeps lo hi ws₁ two
-  outside lo hi (inl x) = keeps-trans (keeps-set lo hi ws₁ (5120 + i) _ (inr (omega arith))) (keeps-set lo hi one (4096 + b) i (inr (omega arith)))
-  outside lo hi (inr (inl x)) = keeps-trans (keeps-set lo hi ws₁ (5120 + i) _ (inl x)) (keeps-set lo hi one (4096 + b) i (inl (omega arith)))
-  outside lo hi (inr (inr x)) = keeps-trans (keeps-set lo hi ws₁ (5120 + i) _ (inr (x .1))) (keeps-set lo hi one (4096 + b) i (inl (omega (arith, x .0))))
+  outside lo hi (inl x) = keeps-trans (keeps-set lo hi ws₁ (5120 + i) _ (inr (omega arith))) (keeps-set lo hi one (4096 + b) _ (inr (omega arith)))
+  outside lo hi (inr (inl x)) = keeps-trans (keeps-set lo hi ws₁ (5120 + i) _ (inl x)) (keeps-set lo hi one (4096 + b) _ (inl (omega arith)))
+  outside lo hi (inr (inr x)) = keeps-trans (keeps-set lo hi ws₁ (5120 + i) _ (inr (x .1))) (keeps-set lo hi one (4096 + b) _ (inl (omega (arith, x .0))))
 
   pub made-more : IndexedFrom book first n i ws two
   made-more = record {
@@ -182,14 +203,25 @@ module _ (book : List ℕ) (first n : ℕ) (ws : List ℕ) (f : ℕ) (I : Indexe
   abbrev b : ℕ
   b = f % 1024
 
-  first-is : getD ws (4096 + b) 0 ≡ nextIn book first b 0 (n - 0)
-  first-is = let z : n - 0 ≡ n = omega arith in I .firsts b (omega arith) ∙ rw z refl
+  module _ (m : n ≤ 1024) where
+    -- the number in the bucket's word
+    first-is : getD ws (4096 + b) 0 % 4096 ≡ nextIn book first b 0 (n - 0)
+    first-is =
+        let z : n - 0 ≡ n = omega arith in
+        ap (λ (x : ℕ). x % 4096) (I .firsts b (omega arith)) ∙ entry-number book first n m _ (omega (arith, in-bounds book first b 0 n .1)) ∙ rw z refl
 
-  pub first-bucket : InBucket book first n b (getD ws (4096 + b) 0)
-  first-bucket = skip-within book first n 0 _ (omega arith) b first-is
+    pub first-bucket : InBucket book first n b (getD ws (4096 + b) 0 % 4096)
+    first-bucket = skip-within book first n 0 _ (omega arith) b first-is
 
-  pub first-skips : (m r : ℕ) → r ≡ nextMatch book f m first (getD ws (4096 + b) 0) (n - getD ws (4096 + b) 0) → r ≡ nextMatch book f m first 0 n
-  first-skips m r e = let z : n - 0 ≡ n = omega arith in e ∙ skip-same book first n 0 _ (omega arith) f m first-is ∙ rw z refl
+    pub first-skips : (k r : ℕ) → r ≡ nextMatch book f k first (getD ws (4096 + b) 0 % 4096) (n - getD ws (4096 + b) 0 % 4096) → r ≡ nextMatch book f k first 0 n
+    first-skips k r e = let z : n - 0 ≡ n = omega arith in e ∙ skip-same book first n 0 _ (omega arith) f k first-is ∙ rw z refl
+
+    -- and the record, if it is the clause's
+    pub first-record : (i : ℕ) → i < n → getD ws (4096 + b) 0 % 4096 ≡ i → getD ws (4096 + b) 0 / 4096 ≡ field book (first + i) 1
+    first-record i h e =
+        let z : n - 0 ≡ n = omega arith in
+        let d : nextIn book first b 0 n ≡ i = (rw z at (sym first-is)) ∙ e in
+        ap (λ (x : ℕ). x / 4096) (I .firsts b (omega arith) ∙ ap (entryOf book first n) d) ∙ entry-clause book first n m i h
 
   module _ (i : ℕ) (h : i < n) (e : bucketOf book first i ≡ b) where
     next-is : getD ws (5120 + i) 0 ≡ nextIn book first b (i + 1) (n - (i + 1))

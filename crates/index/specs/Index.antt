@@ -1,10 +1,10 @@
 -- An index of a run of at most 1,024 clauses by head symbol. The buckets are the symbols' ten lowest bits.
--- Word 4096 + b is the number of the first clause in bucket b, and word 5120 + i that of the next clause in clause i's bucket; n, the length of the run, is none.
+-- Word 4096 + b is the number of the first clause in bucket b, with the clause's record, and word 5120 + i the number of the next clause in clause i's bucket; n, the length of the run, is none.
 use mathlib.Core.Path.{_≡_}
 use mathlib.Core.Bool.{Bool, true, false}
 use mathlib.Core.List.{List}
-use Prim.Native.Nat.{ℕ, zero, suc, _+_, _-_, _%_, _≤_, _<_}
-use lib.Dec.{eqb}
+use Prim.Native.Nat.{ℕ, zero, suc, _+_, _-_, _*_, _%_, _≤_, _<_}
+use lib.Dec.{eqb, ltb}
 use lib.ListN.{getD}
 use Rattle.book.specs.Records.{field}
 use Rattle.words.specs.Frame.{Keeps}
@@ -18,9 +18,13 @@ unfoldable pub nextIn : List ℕ → ℕ → ℕ → ℕ → ℕ → ℕ
 nextIn book first b k zero = k
 nextIn book first b k (suc j) = elim (eqb b (bucketOf book first k)) [ true ↦ k | false ↦ nextIn book first b (suc k) j ]
 
+-- the word of clause i of a run of n: its number, and its record; n alone, if there is no such clause
+unfoldable pub entryOf : List ℕ → ℕ → ℕ → ℕ → ℕ
+entryOf book first n i = elim (ltb i n) [ true ↦ 4096 * field book (first + i) 1 + i | false ↦ n ]
+
 -- the words say so
 pub record Indexed (book : List ℕ) (first n : ℕ) (ws : List ℕ) : Type 0 where
-  pub firsts : (b : ℕ) → b < 1024 → getD ws (4096 + b) 0 ≡ nextIn book first b 0 n
+  pub firsts : (b : ℕ) → b < 1024 → getD ws (4096 + b) 0 ≡ entryOf book first n (nextIn book first b 0 n)
   pub nexts : (i : ℕ) → i < n → getD ws (5120 + i) 0 ≡ nextIn book first (bucketOf book first i) (i + 1) (n - (i + 1))
 
 -- what the code of the index leaves: the buckets below b empty, and nothing else changed
@@ -31,7 +35,7 @@ pub record EmptyFrom (n b : ℕ) (ws ws′ : List ℕ) : Type 0 where
 
 -- the clauses from number i on indexed, and nothing else changed; from 0 on, that is `Indexed`
 pub record IndexedFrom (book : List ℕ) (first n i : ℕ) (ws ws′ : List ℕ) : Type 0 where
-  pub firsts : (b : ℕ) → b < 1024 → getD ws′ (4096 + b) 0 ≡ nextIn book first b i (n - i)
+  pub firsts : (b : ℕ) → b < 1024 → getD ws′ (4096 + b) 0 ≡ entryOf book first n (nextIn book first b i (n - i))
   pub nexts : (j : ℕ) → i ≤ j → j < n → getD ws′ (5120 + j) 0 ≡ nextIn book first (bucketOf book first j) (j + 1) (n - (j + 1))
   pub below : Keeps 0 4096 ws ws′
   pub between : Keeps 5120 (5120 + i) ws ws′

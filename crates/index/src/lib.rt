@@ -79,9 +79,10 @@ pub fn make_index(book: &[u8], ws: &mut [u32], first: u32, n: u32)
         i -= 1;
         let b = bucket(book, first, n, i);
         let at = (4096 + b) as usize;
-        let next = ws[at];
+        let next = ws[at] % 4096;
+        let c = words::field(book, first + i, 1);
         ws[(5120 + i) as usize] = next;
-        ws[at] = i;
+        ws[at] = 4096 * c + i;
     }
 }
 
@@ -113,8 +114,23 @@ pub fn first_match(book: &[u8], ws: &[u32], first: u32, n: u32, f: u32, m: u32) 
     requires { ⌜ Indexed (now book) first n (now ws) ⌝ }
     ensures { λ r. ⌜ r ≡ nextMatch (now (book .entry)) f m first 0 n ⌝ }
 {
-    let j = ws[(4096 + f % 1024) as usize];
+    let j = ws[(4096 + f % 1024) as usize] % 4096;
     match_along(book, ws, first, n, j, f, m)
+}
+
+// The record of clause i of an indexed run of n. If it is the first of bucket f's, which it mostly is, its record is in the bucket's word, and no link is waited for.
+pub fn clause_at(book: &[u8], ws: &[u32], first: u32, n: u32, f: u32, i: u32) -> u32
+    requires { ⌜ Readable (now book) ⌝ }
+    requires { ⌜ ClauseRun (now book) first n ⌝ }
+    requires { ⌜ (i < n) × (first < 4096) × (n ≤ 1024) × (length (now ws) ≡ 16384) ⌝ }
+    requires { ⌜ Indexed (now book) first n (now ws) ⌝ }
+    ensures { λ r. ⌜ r ≡ bookField (now (book .entry)) (first + i) 1 ⌝ }
+{
+    let w = ws[(4096 + f % 1024) as usize];
+    if w % 4096 == i {
+        return w / 4096;
+    }
+    words::field(book, first + i, 1)
 }
 
 // The first after clause i, which matches, that matches too; n if there is none.

@@ -10,6 +10,7 @@ use Rattle.following.proofs.plain_body.Lts as lts
 use Rattle.following.proofs.plain_clause.Reads as plain-clause-reads
 use Rattle.index.proofs.first_match.Reads as first-match-reads
 use Rattle.index.proofs.match_after.Reads as match-after-reads
+use Rattle.index.proofs.clause_at.Reads as clause-at-reads
 use Rattle.words.proofs.field.Reads as field-reads
 
 -- src/lib.rt:43:8
@@ -48,21 +49,17 @@ match-after-requires c κs = let p = c .before .before .before .before .before .
 returns-4 : tie.Need-returns-4
 returns-4 c = no-rule {r = 0} refl
 
--- src/lib.rt:58:32
-add-field : tie.Need-add-field
-add-field c = let p = c .before .before .before .before .before .before .before .before .before .before .before .pre in let y = link-in _ (p .1 .0 .0) (p .1 .0 .1) _ _ (p .1 .1 .0 .0) (p .1 .1 .0 .1) _ (c .before .before .if3 .left) in omega (arith, p .1 .0 .1 .first-small, p .1 .1 .0 .0, p .1 .0 .1 .count-small, p .1 .1 .0 .1, c .before .before .if3 .left)
-
--- src/lib.rt:58:9
-field-requires-4 : tie.Need-field-requires-4
-field-requires-4 c κs = let p = c .before .before .before .before .before .before .before .before .before .before .before .pre in let y = link-in _ (p .1 .0 .0) (p .1 .0 .1) _ _ (p .1 .1 .0 .0) (p .1 .1 .0 .1) _ (c .before .before .if3 .left) in (p .0, (y .0, omega arith))
+-- src/lib.rt:63:13
+clause-at-requires : tie.Need-clause-at-requires
+clause-at-requires c κs = let p = c .before .before .before .before .before .before .before .before .before .before .before .pre in let x = run-ready _ (p .1 .0 .0) (p .1 .0 .1) _ _ (p .1 .1 .0 .0) (p .1 .1 .0 .1) _ (p .1 .1 .1 .1) (p .1 .0 .2) in (p .0, (x .0, ((c .before .before .if3 .left, x .1 .0 .0, x .1 .0 .1, x .1 .0 .2), x .1 .1)))
 
 -- src/lib.rt:59:5
 plain-clause-requires : tie.Need-plain-clause-requires
-plain-clause-requires c κs = let p = c .before .before .before .before .before .before .before .before .before .before .before .before .pre in let y = link-in _ (p .1 .0 .0) (p .1 .0 .1) _ _ (p .1 .1 .0 .0) (p .1 .1 .0 .1) _ (c .before .before .before .if3 .left) in (p .0, rw (c .field4 .ensures .0) (y .1))
+plain-clause-requires c κs = let p = c .before .before .before .before .before .before .before .before .before .before .before .before .pre in let y = link-in _ (p .1 .0 .0) (p .1 .0 .1) _ _ (p .1 .1 .0 .0) (p .1 .1 .0 .1) _ (c .before .before .before .if3 .left) in (p .0, rw (c .clause-at .ensures) (y .1))
 
 -- src/lib.rt:36:1
 returns-5 : tie.Need-returns-5
-returns-5 c = let p = c .before .before .before .before .before .before .before .before .before .before .before .before .before .pre in body-here _ (p .1 .0 .0) (p .1 .0 .1) _ _ (p .1 .1 .0 .0) (p .1 .1 .0 .1) _ _ (c .before .before .before .before .before .first-match .ensures) (c .before .before .before .before .if3 .left) _ (c .before .before .before .match-after .ensures) (c .before .before .if4 .left) _ (p .1 .1 .1 .0) (sym (c .before .before .before .before .before .before .before .before .before .before .field .ensures .0) ∙ c .before .before .before .before .before .before .before .before .before .if1 .left) (sym (c .before .before .before .before .before .before .before .before .field2 .ensures .0) ∙ c .before .before .before .before .before .before .before .if2 .left) (c .before .before .before .before .before .before .field3 .ensures .0) _ (λ s. rw (← c .before .field4 .ensures .0) (c .plain-clause .ensures s))
+returns-5 c = let p = c .before .before .before .before .before .before .before .before .before .before .before .before .before .pre in body-here _ (p .1 .0 .0) (p .1 .0 .1) _ _ (p .1 .1 .0 .0) (p .1 .1 .0 .1) _ _ (c .before .before .before .before .before .first-match .ensures) (c .before .before .before .before .if3 .left) _ (c .before .before .before .match-after .ensures) (c .before .before .if4 .left) _ (p .1 .1 .1 .0) (sym (c .before .before .before .before .before .before .before .before .before .before .field .ensures .0) ∙ c .before .before .before .before .before .before .before .before .before .if1 .left) (sym (c .before .before .before .before .before .before .before .before .field2 .ensures .0) ∙ c .before .before .before .before .before .before .before .if2 .left) (c .before .before .before .before .before .before .field3 .ensures .0) _ (λ s. rw (← c .before .clause-at .ensures) (c .plain-clause .ensures s))
 
 pub plain-body-spec : {M : Type 1} → statement M
 plain-body-spec =
@@ -77,7 +74,6 @@ plain-body-spec =
     returns-3
     match-after-requires
     returns-4
-    add-field
-    field-requires-4
+    clause-at-requires
     plain-clause-requires
     returns-5)

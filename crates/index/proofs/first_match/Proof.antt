@@ -24,11 +24,11 @@ shared-slice-read-j c = search needs
 
 -- src/lib.rt:117:5
 match-along-requires : tie.Need-match-along-requires
-match-along-requires c κs = let p = c .before .before .before .pre in (p .0, (p .1 .0, (p .1 .1 .0, (p .1 .1 .1, first-bucket _ _ _ _ _ (p .1 .1 .1)))))
+match-along-requires c κs = let p = c .before .before .before .pre in (p .0, (p .1 .0, (p .1 .1 .0, (p .1 .1 .1, first-bucket _ _ _ _ _ (p .1 .1 .1) (p .1 .1 .0 .1)))))
 
 -- src/lib.rt:109:1
 returns : tie.Need-returns
-returns c = let p = c .before .before .before .before .pre in first-skips _ _ _ _ _ (p .1 .1 .1) _ _ (c .match-along .ensures)
+returns c = let p = c .before .before .before .before .pre in first-skips _ _ _ _ _ (p .1 .1 .1) (p .1 .1 .0 .1) _ _ (c .match-along .ensures)
 
 pub first-match-spec : {M : Type 1} → statement M
 first-match-spec =

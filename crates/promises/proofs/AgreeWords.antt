@@ -24,6 +24,8 @@ use Rattle.words.proofs.field.Reads as words-field-reads
 use Rattle.words.proofs.word_for.Reads as words-word-for-reads
 use Rattle.words.proofs.push_terms.Reads as words-push-terms-reads
 use Rattle.words.proofs.bind.Reads as words-bind-reads
+use Rattle.words.proofs.symbol_and_count.Reads as words-symbol-and-count-reads
+use Rattle.words.proofs.read_variable.Reads as words-read-variable-reads
 use Rattle.words.proofs.read_through.Reads as words-read-through-reads
 use Rattle.index.proofs.make_index.Reads as index-make-index-reads
 
@@ -66,6 +68,9 @@ words-index κs a r r′ s s′ p q = p ∙ sym q
 pub words-field : (κs : _) (a : _) (r r′ : _) (s s′ : _) → words-field-reads.Post κs a r s → words-field-reads.Post κs a r′ s′ → r ≡ r′
 words-field κs a r r′ s s′ p q = p .0 ∙ sym (q .0)
 
+pub words-symbol-and-count : (κs : _) (a : _) (r r′ : _) (s s′ : _) → words-symbol-and-count-reads.Post κs a r s → words-symbol-and-count-reads.Post κs a r′ s′ → r ≡ r′
+words-symbol-and-count κs a r r′ s s′ p q = p .0 ∙ sym (q .0)
+
 pub words-word-for : (κs : _) (a : _) (r r′ : _) (s s′ : _) → words-word-for-reads.Post κs a r s → words-word-for-reads.Post κs a r′ s′ → r ≡ r′
 words-word-for κs a r r′ s s′ p q = p ∙ sym q
 
@@ -75,7 +80,11 @@ words-push-terms κs a r r′ s s′ p q = p ∙ sym q
 pub words-bind : (κs : _) (a : _) (r r′ : _) (s s′ : _) → words-bind-reads.Post κs a r s → words-bind-reads.Post κs a r′ s′ → s .1 .1 .1 .0 .now ≡ s′ .1 .1 .1 .0 .now
 words-bind κs a r r′ s s′ p q = p ∙ sym q
 
--- words::read_through: the same term. Two words can stand for one term, where the book says it twice; which of them is given is the exception.
+-- words::read_variable, words::read_through: the same term. Two words can stand for one term, where the book says it twice; which of them is given is the exception.
+pub words-read-variable : (κs : _) (a : _) (r r′ : _) (s s′ : _) → words-read-variable-reads.Post κs a r s → words-read-variable-reads.Post κs a r′ s′
+    → termW (a .0 .now) r ≡ termW (a .0 .now) r′
+words-read-variable κs a r r′ s s′ p q = sym (p .walked) ∙ q .walked
+
 pub words-read-through : (κs : _) (a : _) (r r′ : _) (s s′ : _) → words-read-through-reads.Post κs a r s → words-read-through-reads.Post κs a r′ s′
     → termW (a .0 .now) r ≡ termW (a .0 .now) r′
 words-read-through κs a r r′ s s′ p q = sym (p .walked) ∙ q .walked

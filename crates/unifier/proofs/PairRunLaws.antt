@@ -126,10 +126,6 @@ module _ (book : List ℕ) (made : ℕ) (ws ws′ : List ℕ) (s : ToPair) (P : 
     ends = P .ends;
   }
 
-  pub pairs-kept : pairListOf book ws′ s ≡ pairListOf book ws s
-  unfolding pairListOf
-  pairs-kept = rw waits-kept refl
-
   pub past-kept : pastPairs book ws′ s ≡ pastPairs book ws s
   unfolding pastPairs
   past-kept = rw waits-kept refl

@@ -244,10 +244,10 @@ fn pass_over(book: &[u8], ws: &[u32], k: u32, x: Back, left: u32) -> Passed
     let mut used: u32 = 0;
     loop {
         let next = after_next(book, ws, k, y);
-        if left - used < 2 {
+        if !passes(book, ws, k, y, w) {
             return Passed::Next(y, next, used);
         }
-        if !passes(book, ws, k, y, w) {
+        if left - used < 2 {
             return Passed::Next(y, next, used);
         }
         match next {

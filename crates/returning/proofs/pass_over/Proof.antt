@@ -31,17 +31,17 @@ loop-holds c = inv-start (c .first-word .ensures) (c .before .before .before .pr
 after-next-requires : tie.Need-after-next-requires Inv-loop μ-loop
 after-next-requires c κs = let p = c .before .before .before .before .pre in (p .0, (p .1 .0, c .loop .inv .some))
 
--- src/lib.rt:247:12
-sub-if1 : tie.Need-sub-if1 Inv-loop μ-loop
-sub-if1 c = c .before .loop .inv .within
+-- src/lib.rt:247:13
+passes-requires : tie.Need-passes-requires Inv-loop μ-loop
+passes-requires c κs = let p = c .before .before .before .before .before .pre in let I = c .before .loop .inv in (p .0, (p .1 .0 .0, (I .first, I .some)))
 
 -- src/lib.rt:248:13
 returns : tie.Need-returns Inv-loop μ-loop
-returns c = λ threads X. inv-next _ _ _ (c .before .before .loop .inv) (c .before .after-next .ensures) threads X
+returns c = λ threads X. inv-next _ _ _ (c .before .before .before .loop .inv) (c .before .before .after-next .ensures) threads X
 
--- src/lib.rt:250:13
-passes-requires : tie.Need-passes-requires Inv-loop μ-loop
-passes-requires c κs = let p = c .before .before .before .before .before .before .pre in let I = c .before .before .loop .inv in (p .0, (p .1 .0 .0, (I .first, I .some)))
+-- src/lib.rt:250:12
+sub-if2 : tie.Need-sub-if2 Inv-loop μ-loop
+sub-if2 c = c .before .before .before .loop .inv .within
 
 -- src/lib.rt:251:13
 returns-2 : tie.Need-returns-2 Inv-loop μ-loop
@@ -53,11 +53,11 @@ enum-told c = search needs
 
 -- src/lib.rt:254:61
 add-t15 : tie.Need-add-t15 Inv-loop μ-loop
-add-t15 c = let I = c .before .before .before .before .before .before .loop .inv in omega (arith, c .before .before .before .before .if1 .left, I .within)
+add-t15 c = let I = c .before .before .before .before .before .before .loop .inv in omega (arith, c .before .before .if2 .left, I .within)
 
 -- src/lib.rt:254:35
 returns-3 : tie.Need-returns-3 Inv-loop μ-loop
-returns-3 c = λ threads X. let p = c .before .before .before .before .before .before .before .before .before .before .pre in let I = c .before .before .before .before .before .before .loop .inv in let d = c .before .before .before .passes .ensures (not-false _ (c .before .before .if2 .left)) in inv-gone (p .0) (p .1 .0 .0) _ _ I (omega (arith, c .before .before .before .before .if1 .left)) _ refl (d .0) (d .1) _ (c .before .before .before .before .before .after-next .ensures) (c .enum-told .given .1) threads X
+returns-3 c = λ threads X. let p = c .before .before .before .before .before .before .before .before .before .before .pre in let I = c .before .before .before .before .before .before .loop .inv in let d = c .before .before .before .before .passes .ensures (not-false _ (c .before .before .before .if1 .left)) in inv-gone (p .0) (p .1 .0 .0) _ _ I (omega (arith, c .before .before .if2 .left)) _ refl (d .0) (d .1) _ (c .before .before .before .before .before .after-next .ensures) (c .enum-told .given .1) threads X
 
 -- src/lib.rt:255:27
 enum-known-next : tie.Need-enum-known-next Inv-loop μ-loop
@@ -69,15 +69,15 @@ at-place-requires c κs = search needs
 
 -- src/lib.rt:257:9
 add-used : tie.Need-add-used Inv-loop μ-loop
-add-used c = let I = c .before .before .before .before .before .before .before .before .loop .inv in omega (arith, c .before .before .before .before .before .before .if1 .left, I .within, c .before .before .before .before .before .before .before .before .before .before .before .before .fits)
+add-used c = let I = c .before .before .before .before .before .before .before .before .loop .inv in omega (arith, c .before .before .before .before .if2 .left, I .within, c .before .before .before .before .before .before .before .before .before .before .before .before .fits)
 
 -- src/lib.rt:245:5
 loop-less : tie.Need-loop-less Inv-loop μ-loop
-loop-less c = let I = c .before .before .before .before .before .before .before .before .loop .inv in omega (arith, c .before .before .before .before .before .before .if1 .left, I .within)
+loop-less c = let I = c .before .before .before .before .before .before .before .before .loop .inv in omega (arith, c .before .before .before .before .if2 .left, I .within)
 
 -- src/lib.rt:245:5
 loop-again : tie.Need-loop-again Inv-loop μ-loop
-loop-again c = let p = c .before .before .before .before .before .before .before .before .before .before .before .before .pre in let I = c .before .before .before .before .before .before .before .before .loop .inv in let d = c .before .before .before .before .before .passes .ensures (not-false _ (c .before .before .before .before .if2 .left)) in inv-more (p .0) (p .1 .0 .0) _ _ I (omega (arith, c .before .before .before .before .before .before .if1 .left)) _ refl (d .0) (d .1) _ (c .before .before .before .before .before .before .before .after-next .ensures) _ _ _ (c .before .before .next .given .1) (c .at-place .ensures)
+loop-again c = let p = c .before .before .before .before .before .before .before .before .before .before .before .before .pre in let I = c .before .before .before .before .before .before .before .before .loop .inv in let d = c .before .before .before .before .before .before .passes .ensures (not-false _ (c .before .before .before .before .before .if1 .left)) in inv-more (p .0) (p .1 .0 .0) _ _ I (omega (arith, c .before .before .before .before .if2 .left)) _ refl (d .0) (d .1) _ (c .before .before .before .before .before .before .before .after-next .ensures) _ _ _ (c .before .before .next .given .1) (c .at-place .ensures)
 
 pub pass-over-spec : {M : Type 1} → statement M
 pass-over-spec =
@@ -88,9 +88,9 @@ pass-over-spec =
     first-word-requires
     loop-holds
     after-next-requires
-    sub-if1
-    returns
     passes-requires
+    returns
+    sub-if2
     returns-2
     enum-told
     add-t15

@@ -13,7 +13,7 @@ const BUDGET: u32 = 1_000_000_000;
 const WANTED: u32 = 64;
 /// What one measurement takes at least, and how many are made of each engine, in turn.
 const SECONDS: f64 = 0.1;
-const ROUNDS: usize = 7;
+const ROUNDS: usize = 21;
 
 struct Buffers {
     workspace: Vec<u32>,

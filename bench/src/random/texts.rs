@@ -23,6 +23,7 @@ pub fn question(dice: &Dice) -> Question {
         0..=1 => return nested(dice),
         2..=3 => return growing(dice),
         4 => return many_clauses(dice),
+        5 => return plain_rules(dice),
         _ => {}
     }
     let mut shape = Shape {
@@ -196,4 +197,46 @@ fn many_clauses(dice: &Dice) -> Question {
         };
     }
     Question { clauses, goal, unknowns: 3 }
+}
+
+/// Rules without arguments, most of them the only one of their predicate: long chains and rings, cut by facts, second rules, arguments, variables and
+/// suppositions. Some symbols are the same in their ten lowest bits.
+fn plain_rules(dice: &Dice) -> Question {
+    let predicates = dice.of(&[1, 2, 3, 10, 40, 300]);
+    let symbol = |dice: &Dice, p: usize| (p % predicates) as u16 + if dice.one_in(20) { 1024 } else { 0 };
+    let atom = |dice: &Dice, p: usize| {
+        let arguments = if dice.one_in(40) { vec![Term::Symbol(1, vec![])] } else { vec![] };
+        Goal::Atom(Atom(symbol(dice, p), arguments))
+    };
+    let rule = |dice: &Dice, p: usize| {
+        let next = if dice.one_in(20) { dice.below(predicates) } else { p + 1 };
+        let body = match dice.below(40) {
+            0 => None,
+            1 => Some(Goal::And(Box::new(atom(dice, next)), Box::new(atom(dice, p)))),
+            2 => Some(Goal::Or(Box::new(atom(dice, p)), Box::new(atom(dice, next)))),
+            _ => Some(atom(dice, next)),
+        };
+        let arguments = if dice.one_in(60) { vec![Term::Symbol(1, vec![])] } else { vec![] };
+        Clause { variables: if dice.one_in(30) { 1 + dice.below(64) as u16 } else { 0 }, ties: vec![], head: Atom(symbol(dice, p), arguments), body }
+    };
+    let mut clauses: Vec<Clause> = (0..predicates).map(|p| rule(dice, p)).collect();
+    for _ in 0..dice.of(&[0, 0, 1, 3]) {
+        let p = dice.below(predicates);
+        let more = rule(dice, p);
+        clauses.insert(dice.below(clauses.len() + 1), more);
+    }
+    let mut goal = atom(dice, 0);
+    for _ in 0..dice.of(&[0, 0, 1, 2, 6]) {
+        let p = dice.below(predicates);
+        goal = match dice.below(4) {
+            0 => Goal::And(Box::new(goal), Box::new(atom(dice, p))),
+            1 => Goal::Or(Box::new(goal), Box::new(atom(dice, p))),
+            2 => Goal::Or(Box::new(atom(dice, p)), Box::new(goal)),
+            _ => {
+                let fact = Clause { variables: 0, ties: vec![], head: Atom(symbol(dice, p), vec![]), body: None };
+                Goal::Suppose(vec![if dice.one_in(2) { fact } else { rule(dice, p) }], Box::new(goal))
+            }
+        };
+    }
+    Question { clauses, goal, unknowns: dice.below(3) as u16 }
 }

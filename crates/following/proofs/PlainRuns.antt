@@ -29,7 +29,7 @@ use Rattle.branch.proofs.ClauseLaws.{ClauseHere, own-clause}
 use Rattle.steps.specs.Search.{runOn, spentUnits}
 use Rattle.steps.proofs.RunLaws.{unit-on}
 use Rattle.following.specs.Plain.{PlainClause, ownProgram, Plain, Chain, Chain.chain-none, Chain.chain-more}
-use Rattle.following.proofs.PlainLaws.{rule, rule-body, body-in}
+use Rattle.following.proofs.PlainLaws.{body-in}
 
 -- no variables: nothing is made
 no-entries : (ties : List Tie) (o : ℕ) → newEntries ties o 0 ≡ []
@@ -67,7 +67,7 @@ module _ (book : List ℕ) (A : Accepted book) (g b : ℕ) (P : Plain book g b) 
 
   does : bodyOf (clauseOf book c) ≡ withBody (goalOf book b)
   unfolding bodyBy
-  does = clause-does book (A .formed) c in-book kind-c ∙ rw (bodyBy, eq-eqb (field book c 5) 1 (P .clause .some), rule-body book (A .formed) (own-ready book A) g b P) refl
+  does = clause-does book (A .formed) c in-book kind-c ∙ rw (bodyBy, eq-eqb (field book c 5) 1 (P .clause .some), P .clause .body) refl
 
   clause-is : ClauseHere book (field book (lastRecord book) 4) force c 0
   clause-is =
@@ -85,8 +85,7 @@ module _ (book : List ℕ) (A : Accepted book) (g b : ℕ) (P : Plain book g b) 
   pub body-here : (made : ℕ) → GoalHere book made b made
   body-here made =
       let x = clause-body book (A .formed) c in-book kind-c (P .clause .some) in
-      let e = rule-body book (A .formed) (own-ready book A) g b P in
-      record { inside = body-in book (A .formed) (own-ready book A) g b P; kind = rw e at (x .1); holder = 0; scoped = goal-scoped; room = omega arith }
+      record { inside = body-in book (A .formed) (own-ready book A) g b P; kind = rw (P .clause .body) at (x .1); holder = 0; scoped = goal-scoped; room = omega arith }
 
   module _ (x : Branch) (base : ℕ) (gs : List Todo) (goals : x .goals ≡ todo (goalOf book g) base (ownProgram book) ∷ gs) (l : x .taken < 512) (room : length (x .store) ≤ 2048) where
     abbrev atom-taken : Atom

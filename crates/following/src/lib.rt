@@ -1,7 +1,7 @@
 // Following plain rules: an atom without arguments whose only candidate is one of the question's own clauses, without variables and with a body. Entering it
 // binds nothing and makes nothing: the body takes the atom's place. So a chain of such rules is followed, two units a rule, without a word being written.
 ghost use mathlib.Core.Path.{_≡_};
-ghost use Prim.Native.Nat.{_≤_, _<_};
+ghost use Prim.Native.Nat.{_<_};
 ghost use lib.ListN.{length};
 ghost use Rattle.book.specs.Records.{field as bookField, records};
 ghost use Rattle.book.specs.Kinds.{kindAt, clauseKind};
@@ -9,7 +9,7 @@ ghost use Rattle.book.proofs.Accepted.{Formed};
 ghost use Rattle.words.specs.Readable.{Readable};
 ghost use Rattle.branch.specs.State.{ownRun};
 ghost use Rattle.branch.specs.Seeking.{OwnReady, OwnIndexed};
-ghost use Rattle.following.specs.Plain.{PlainClause, PlainBody, Chain};
+ghost use Rattle.following.specs.Plain.{plainClause, plainBody, followOn};
 
 // Where plain rules lead: the goal, and how many were entered on the way.
 pub struct Followed {
@@ -21,7 +21,7 @@ pub struct Followed {
 fn plain_clause(book: &[u8], c: u32) -> u32
     requires { ⌜ Readable (now book) ⌝ }
     requires { ⌜ c < records (now book) ⌝ }
-    ensures { λ r. ⌜ (0 < r → PlainClause (now (book .entry)) c r) ⌝ }
+    ensures { λ r. ⌜ r ≡ plainClause (now (book .entry)) c ⌝ }
 {
     if words::field(book, c, 1) != 0 {
         return 0;
@@ -38,7 +38,7 @@ fn plain_body(book: &[u8], ws: &[u32], first: u32, n: u32, g: u32) -> u32
     requires { ⌜ Formed (now book) × OwnReady (now book) 0 × OwnIndexed (now book) (now ws) ⌝ }
     requires { ⌜ (first ≡ ownRun (now book) .first) × (n ≡ ownRun (now book) .count) ⌝ }
     requires { ⌜ (g < records (now book)) × (length (now ws) ≡ 16384) ⌝ }
-    ensures { λ r. ⌜ PlainBody (now (book .entry)) g r ⌝ }
+    ensures { λ r. ⌜ r ≡ plainBody (now (book .entry)) g ⌝ }
 {
     if words::field(book, g, 0) != 4 {
         return 0;
@@ -59,13 +59,12 @@ fn plain_body(book: &[u8], ws: &[u32], first: u32, n: u32, g: u32) -> u32
     plain_clause(book, c)
 }
 
-// Follows plain rules from a goal, `most` of them at most.
+// Follows plain rules from a goal, as far as they lead, but `most` of them at most.
 pub fn follow(book: &[u8], ws: &[u32], goal: u32, most: u32) -> Followed
     requires { ⌜ Readable (now book) ⌝ }
     requires { ⌜ Formed (now book) × OwnReady (now book) 0 × OwnIndexed (now book) (now ws) ⌝ }
     requires { ⌜ (goal < records (now book)) × (length (now ws) ≡ 16384) ⌝ }
-    ensures { λ p. ⌜ Chain (now (book .entry)) goal (p .goal) (p .rules) ⌝ }
-    ensures { λ p. ⌜ (p .rules ≤ most) × (p .goal < records (now (book .entry))) ⌝ }
+    ensures { λ p. ⌜ p ≡ followOn (now (book .entry)) goal 0 most ⌝ }
 {
     let last = (book.len() / 16 - 1) as u32;
     let first = words::field(book, last, 1);

@@ -16,6 +16,7 @@ use Rattle.branch.proofs.go_back.Reads as branch-go-back-reads
 use Rattle.branch.proofs.keep.Reads as branch-keep-reads
 use Rattle.branch.proofs.put_cell.Reads as branch-put-cell-reads
 use Rattle.index.proofs.seek_run.Reads as index-seek-run-reads
+use Rattle.following.proofs.follow.Reads as following-follow-reads
 use Rattle.index.proofs.clause_at.Reads as index-clause-at-reads
 use Rattle.index.proofs.first_match.Reads as index-first-match-reads
 use Rattle.index.proofs.match_after.Reads as index-match-after-reads
@@ -58,6 +59,9 @@ index-first-match κs a r r′ s s′ p q = p ∙ sym q
 
 pub index-match-after : (κs : _) (a : _) (r r′ : _) (s s′ : _) → index-match-after-reads.Post κs a r s → index-match-after-reads.Post κs a r′ s′ → r ≡ r′
 index-match-after κs a r r′ s s′ p q = p ∙ sym q
+
+pub following-follow : (κs : _) (a : _) (r r′ : _) (s s′ : _) → following-follow-reads.Post κs a r s → following-follow-reads.Post κs a r′ s′ → r ≡ r′
+following-follow κs a r r′ s s′ p q = p ∙ sym q
 
 pub index-clause-at : (κs : _) (a : _) (r r′ : _) (s s′ : _) → index-clause-at-reads.Post κs a r s → index-clause-at-reads.Post κs a r′ s′ → r ≡ r′
 index-clause-at κs a r r′ s s′ p q = p ∙ sym q

@@ -1,11 +1,11 @@
 use native.Mathlib.Omega.{arith}
-use mathlib.Core.Path.{refl, sym, _∙_}
+use mathlib.Core.Path.{_≡_, refl, sym, _∙_}
 use Prim.Native.Nat.{_-_, _≤_, _<_}
 use borrow.Author.Needs.{needs}
 use Rattle.book.specs.Records.{records, lastRecord}
 use Rattle.branch.proofs.SeekChain.{last-in}
-use Rattle.following.specs.Plain.{Chain, Chain.chain-none}
-use Rattle.following.proofs.PlainLaws.{rule-in, one-more}
+use Rattle.following.specs.Plain.{followOn}
+use Rattle.following.proofs.PlainLaws.{loop-start, loop-end, loop-none, loop-one, loop-in}
 use Rattle.following.proofs.follow.Statement.{statement}
 use Rattle.following.proofs.follow.Tie as tie
 use Rattle.following.proofs.follow.Reads as reads
@@ -14,7 +14,7 @@ use Rattle.following.proofs.plain_body.Reads as plain-body-reads
 use Rattle.words.proofs.field.Reads as field-reads
 
 abbrev Inv-loop : tie.InvT-loop
-Inv-loop book ws goal most last first n g₀ rules₀ g rules = Chain book goal g rules × (rules ≤ most) × (g < records book)
+Inv-loop book ws goal most last first n g₀ rules₀ g rules = (followOn book g rules (most - rules) ≡ followOn book goal 0 most) × (rules ≤ most) × (g < records book)
 
 abbrev μ-loop : tie.MeasureT-loop
 μ-loop book ws goal most last first n g₀ rules₀ g rules = most - rules
@@ -40,7 +40,7 @@ field-requires-2 c κs = let p = c .before .before .before .pre in (p .0, (last-
 
 -- src/lib.rt:75:5
 loop-holds : tie.Need-loop-holds Inv-loop μ-loop
-loop-holds c = let p = c .before .before .before .before .pre in (chain-none {n = 0} refl refl, omega arith, p .1 .1 .0)
+loop-holds c = let p = c .before .before .before .before .pre in (loop-start _ _ _, omega arith, p .1 .1 .0)
 
 -- src/lib.rt:76:13
 plain-body-requires : tie.Need-plain-body-requires Inv-loop μ-loop
@@ -49,7 +49,7 @@ plain-body-requires c κs = let p = c .before .before .before .before .before .b
 
 -- src/lib.rt:78:13
 returns : tie.Need-returns Inv-loop μ-loop
-returns c = let i = c .before .before .before .loop .inv in (i .0, (i .1, i .2))
+returns c = let i = c .before .before .before .loop .inv in loop-none _ _ _ _ (sym (c .before .plain-body .ensures) ∙ c .if1 .taken) (c .before .before .loop-test .taken) ∙ i .0
 
 -- src/lib.rt:83:13
 sub-g : tie.Need-sub-g Inv-loop μ-loop
@@ -65,11 +65,11 @@ loop-less c = omega (arith, c .before .before .loop-test .taken)
 
 -- src/lib.rt:75:5
 loop-again : tie.Need-loop-again Inv-loop μ-loop
-loop-again c = let p = c .before .before .before .before .before .before .before .before .pre in let i = c .before .before .before .loop .inv in let s : 0 < c .before .plain-body .result = omega (arith, c .if1 .left) in (one-more _ _ _ _ _ _ (i .0) (c .before .plain-body .ensures) s refl, omega (arith, c .before .before .loop-test .taken), rule-in _ (p .1 .0 .0) (p .1 .0 .1) _ _ (c .before .plain-body .ensures) s)
+loop-again c = let p = c .before .before .before .before .before .before .before .before .pre in let i = c .before .before .before .loop .inv in let s : 0 < c .before .plain-body .result = omega (arith, c .if1 .left) in (loop-one _ _ _ _ _ (c .before .plain-body .ensures) s (c .before .before .loop-test .taken) ∙ i .0, omega (arith, c .before .before .loop-test .taken), loop-in _ (p .1 .0 .0) (p .1 .0 .1) _ _ (i .2) (c .before .plain-body .ensures) s)
 
 -- src/lib.rt:63:1
 returns-2 : tie.Need-returns-2 Inv-loop μ-loop
-returns-2 c = let i = c .before .loop .inv in (i .0, (i .1, i .2))
+returns-2 c = let i = c .before .loop .inv in loop-end _ _ _ _ (i .1) (c .loop-test .left) ∙ i .0
 
 pub follow-spec : {M : Type 1} → statement M
 follow-spec =

@@ -1,7 +1,6 @@
 use native.Mathlib.Omega.{arith}
 use mathlib.Core.Path.{refl, sym, _∙_}
-use Rattle.following.specs.Plain.{PlainBody.no-rule}
-use Rattle.following.proofs.PlainLaws.{run-ready, link-in, matches-here, body-here}
+use Rattle.following.proofs.PlainLaws.{run-ready, link-in, matches-here, not-atom, not-bare, none-own, two-own, one-own}
 use borrow.Author.Needs.{needs}
 use Rattle.following.proofs.plain_body.Statement.{statement}
 use Rattle.following.proofs.plain_body.Tie as tie
@@ -19,7 +18,7 @@ field-requires c κs = search needs
 
 -- src/lib.rt:44:9
 returns : tie.Need-returns
-returns c = no-rule {r = 0} refl
+returns c = not-atom _ _ (λ e. c .if1 .taken (c .before .field .ensures .0 ∙ e))
 
 -- src/lib.rt:46:8
 field-requires-2 : tie.Need-field-requires-2
@@ -27,7 +26,7 @@ field-requires-2 c κs = search needs
 
 -- src/lib.rt:47:9
 returns-2 : tie.Need-returns-2
-returns-2 c = no-rule {r = 0} refl
+returns-2 c = not-bare _ _ (sym (c .before .before .before .field .ensures .0) ∙ c .before .before .if1 .left) (λ e. c .if2 .taken (c .before .field2 .ensures .0 ∙ e))
 
 -- src/lib.rt:49:9
 field-requires-3 : tie.Need-field-requires-3
@@ -39,7 +38,7 @@ first-match-requires c κs = let p = c .before .before .before .before .before .
 
 -- src/lib.rt:52:9
 returns-3 : tie.Need-returns-3
-returns-3 c = no-rule {r = 0} refl
+returns-3 c = let p = c .before .before .before .before .before .before .before .before .before .pre in none-own _ _ (sym (c .before .before .before .before .before .before .field .ensures .0) ∙ c .before .before .before .before .before .if1 .left) (sym (c .before .before .before .before .field2 .ensures .0) ∙ c .before .before .before .if2 .left) _ _ (p .1 .1 .0 .0) (p .1 .1 .0 .1) _ (c .before .before .field3 .ensures .0) _ (c .before .first-match .ensures) (c .if3 .taken)
 
 -- src/lib.rt:54:9
 match-after-requires : tie.Need-match-after-requires
@@ -47,7 +46,7 @@ match-after-requires c κs = let p = c .before .before .before .before .before .
 
 -- src/lib.rt:56:9
 returns-4 : tie.Need-returns-4
-returns-4 c = no-rule {r = 0} refl
+returns-4 c = let p = c .before .before .before .before .before .before .before .before .before .before .before .pre in two-own _ _ (sym (c .before .before .before .before .before .before .before .before .field .ensures .0) ∙ c .before .before .before .before .before .before .before .if1 .left) (sym (c .before .before .before .before .before .before .field2 .ensures .0) ∙ c .before .before .before .before .before .if2 .left) _ _ (p .1 .1 .0 .0) (p .1 .1 .0 .1) _ (c .before .before .before .before .field3 .ensures .0) _ (c .before .before .before .first-match .ensures) (c .before .before .if3 .left) _ (c .before .match-after .ensures) (c .if4 .taken)
 
 -- src/lib.rt:63:13
 clause-at-requires : tie.Need-clause-at-requires
@@ -59,7 +58,7 @@ plain-clause-requires c κs = let p = c .before .before .before .before .before 
 
 -- src/lib.rt:36:1
 returns-5 : tie.Need-returns-5
-returns-5 c = let p = c .before .before .before .before .before .before .before .before .before .before .before .before .before .pre in body-here _ (p .1 .0 .0) (p .1 .0 .1) _ _ (p .1 .1 .0 .0) (p .1 .1 .0 .1) _ _ (c .before .before .before .before .before .first-match .ensures) (c .before .before .before .before .if3 .left) _ (c .before .before .before .match-after .ensures) (c .before .before .if4 .left) _ (p .1 .1 .1 .0) (sym (c .before .before .before .before .before .before .before .before .before .before .field .ensures .0) ∙ c .before .before .before .before .before .before .before .before .before .if1 .left) (sym (c .before .before .before .before .before .before .before .before .field2 .ensures .0) ∙ c .before .before .before .before .before .before .before .if2 .left) (c .before .before .before .before .before .before .field3 .ensures .0) _ (λ s. rw (← c .before .clause-at .ensures) (c .plain-clause .ensures s))
+returns-5 c = let p = c .before .before .before .before .before .before .before .before .before .before .before .before .before .pre in c .plain-clause .ensures ∙ rw (c .before .clause-at .ensures) (one-own _ _ (sym (c .before .before .before .before .before .before .before .before .before .before .field .ensures .0) ∙ c .before .before .before .before .before .before .before .before .before .if1 .left) (sym (c .before .before .before .before .before .before .before .before .field2 .ensures .0) ∙ c .before .before .before .before .before .before .before .if2 .left) _ _ (p .1 .1 .0 .0) (p .1 .1 .0 .1) _ (c .before .before .before .before .before .before .field3 .ensures .0) _ (c .before .before .before .before .before .first-match .ensures) (c .before .before .before .before .if3 .left) _ (c .before .before .before .match-after .ensures) (c .before .before .if4 .left))
 
 pub plain-body-spec : {M : Type 1} → statement M
 plain-body-spec =

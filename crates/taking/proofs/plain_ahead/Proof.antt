@@ -1,4 +1,5 @@
 use native.Mathlib.Omega.{arith}
+use Rattle.following.proofs.PlainLaws.{leads}
 use borrow.Author.Needs.{needs}
 use Rattle.taking.proofs.plain_ahead.Statement.{statement}
 use Rattle.taking.proofs.plain_ahead.Tie as tie
@@ -21,7 +22,7 @@ follow-requires c κs = let p = c .before .before .before .before .before .pre i
 
 -- src/lib.rt:201:1
 returns-2 : tie.Need-returns-2
-returns-2 c = λ s. record { own = omega (arith, c .before .before .if1 .left); chain = c .follow .ensures .0; inside = c .follow .ensures .1 .1; goals = omega (arith, c .before .most-rules .ensures, c .follow .ensures .1 .0); units = omega (arith, c .before .most-rules .ensures, c .follow .ensures .1 .0) }
+returns-2 c = let p = c .before .before .before .before .before .before .pre in let l = leads _ (p .1 .0 .0) (p .1 .0 .1) _ _ _ (p .1 .1 .0) (c .follow .ensures) in λ s. record { own = omega (arith, c .before .before .if1 .left); chain = l .0; inside = l .2; goals = omega (arith, c .before .most-rules .ensures, l .1); units = omega (arith, c .before .most-rules .ensures, l .1) }
 
 pub plain-ahead-spec : {M : Type 1} → statement M
 plain-ahead-spec = tie.close (tie.spec returns most-rules-requires follow-requires returns-2)

@@ -1,6 +1,6 @@
 //! The rows of the benchmark: books that are kept in `books/`, and those made here.
 
-use crate::layout::{and, atom, fact, or, term, variable, Question};
+use crate::layout::{and, atom, fact, or, suppose, term, variable, Clause, Goal, Question, Term};
 
 pub struct Row {
     pub name: &'static str,
@@ -23,6 +23,9 @@ pub fn rows() -> Vec<Row> {
         kept!("tied suppositions", "c_tied-1"),
         kept!("100 suppositions", "d_many-3"),
         kept!("100 suppositions, one call", "d_many-0"),
+        Row { name: "naive reverse among 8 x 64 others", book: reverse_among_others() },
+        Row { name: "facts among 8 x 63 others", book: facts_among_others() },
+        Row { name: "64 others made anew", book: others_made_anew() },
         kept!("deep ground terms", "e_deep-2"),
         kept!("bushy ground terms", "e_tree-2"),
         kept!("chain of 64", "f_chain-0"),
@@ -37,20 +40,82 @@ pub fn rows() -> Vec<Row> {
 /// `k` that two goals try one after the other, so that with a length of 250 all rules are entered 256 times over. With length 0 the question is the
 /// last predicate alone, and the call is little more than its tests.
 fn thousand(length: u16, unknowns: u16) -> Vec<u8> {
-    let (none, k) = (2_000, 3_000);
-    let body = |i: u16| if length > 0 && i % length == length - 1 { none } else { i + 1 };
+    let body = |i: u16| if length > 0 && i % length == length - 1 { NONE } else { i + 1 };
     let mut clauses: Vec<_> = (0..1_000).map(|i| fact(i, &[]).if_(atom(body(i), &[]))).collect();
-    clauses.extend((0..16).map(|c| fact(k, &[term(c, &[])])));
+    clauses.extend((0..16).map(|c| fact(K, &[term(c, &[])])));
     let all = or(or(atom(0, &[]), atom(250, &[])), or(atom(500, &[]), atom(750, &[])));
     let goal = if length > 0 {
-        and(atom(k, &[variable(0)]), and(atom(k, &[variable(1)]), all))
+        and(atom(K, &[variable(0)]), and(atom(K, &[variable(1)]), all))
     } else {
         let last = || atom(999, &[]);
-        and(or(or(last(), last()), or(last(), last())), and(atom(k, &[variable(0)]), atom(k, &[variable(1)])))
+        and(or(or(last(), last()), or(last(), last())), and(atom(K, &[variable(0)]), atom(K, &[variable(1)])))
     };
     let book = Question { clauses, goal, unknowns }.book();
     assert_eq!(book.len(), 65_536);
     book
+}
+
+const NONE: u16 = 2_000;
+const K: u16 = 3_000;
+const APPEND: u16 = 3_001;
+const REVERSE: u16 = 3_002;
+const NIL: u16 = 4_000;
+const CONS: u16 = 4_001;
+
+fn list(items: &[Term]) -> Term {
+    items.iter().rev().fold(term(NIL, &[]), |tail, head| term(CONS, &[head.clone(), tail]))
+}
+
+/// Facts `k(0)` to `k(15)`, and naive reverse.
+fn rules() -> Vec<Clause> {
+    let v = variable;
+    let more = |head, tail| term(CONS, &[v(head), v(tail)]);
+    let mut clauses: Vec<_> = (0..16).map(|c| fact(K, &[term(c, &[])])).collect();
+    clauses.extend([
+        fact(REVERSE, &[list(&[]), list(&[])]),
+        fact(REVERSE, &[more(0, 1), v(2)]).over(4).if_(and(atom(REVERSE, &[v(1), v(3)]), atom(APPEND, &[v(3), list(&[v(0)]), v(2)]))),
+        fact(APPEND, &[list(&[]), v(0), v(0)]).over(1),
+        fact(APPEND, &[more(0, 1), v(2), more(0, 3)]).over(4).if_(atom(APPEND, &[v(1), v(2), v(3)])),
+    ]);
+    clauses
+}
+
+/// The reverse of so many elements, into unknown 2, and then a predicate without clauses.
+fn reverse(elements: u16) -> Goal {
+    let items: Vec<_> = (0..elements).map(|e| term(e, &[])).collect();
+    and(atom(REVERSE, &[list(&items), variable(2)]), atom(NONE, &[]))
+}
+
+fn asked(goal: Goal) -> Vec<u8> {
+    Question { clauses: rules(), goal, unknowns: 3 }.book()
+}
+
+/// So many suppositions around a goal, one in the other, each of so many facts that nobody asks for; and, if so wanted, with a fact `k` in the middle of them.
+fn others(levels: u16, each: u16, among: bool, goal: Goal) -> Goal {
+    (0..levels).fold(goal, |inner, l| {
+        let mut clauses: Vec<_> = (0..each).map(|c| fact(64 * l + c, &[])).collect();
+        if among {
+            clauses.insert(usize::from(each / 2), fact(K, &[term(100 + l, &[])]));
+        }
+        suppose(&clauses, inner)
+    })
+}
+
+/// The reverse of 20 elements 16 times over, in the midst of eight suppositions.
+fn reverse_among_others() -> Vec<u8> {
+    asked(others(8, 64, false, and(atom(K, &[variable(0)]), reverse(20))))
+}
+
+/// Three goals `k`, one after the other: each has the facts of eight suppositions, with 63 others between any two of them, and 16 of the question's own.
+fn facts_among_others() -> Vec<u8> {
+    let k = |u| atom(K, &[variable(u)]);
+    asked(others(8, 63, true, and(k(0), and(k(1), and(k(2), atom(NONE, &[]))))))
+}
+
+/// The reverse of four elements 256 times over, each time in a supposition that is made anew.
+fn others_made_anew() -> Vec<u8> {
+    let k = |u| atom(K, &[variable(u)]);
+    asked(and(k(0), and(k(1), others(1, 64, false, reverse(4)))))
 }
 
 /// The same book with an unknown out of scope: every test is made over the whole book, the last fails.

@@ -3,27 +3,28 @@ use mathlib.Core.Path.{_≡_, refl, sym, _∙_, ap}
 use mathlib.Core.List.{List}
 use Prim.Native.Nat.{ℕ, _+_, _≤_, _<_}
 use native.Mathlib.Omega.{arith}
-use lib.ListN.{length, getD, replicate, getD-replicate, length-replicate}
+use lib.ListN.{length, replicate, length-replicate}
 use Rattle.book.proofs.Accepted.{Accepted}
 use Rattle.machine.specs.declared.Outcome.the-variants.{Ended}
 use Rattle.machine.specs.Call.{noCounts, runOf, accepted}
 use Rattle.running.specs.declared.Ran.{Ran}
 use Rattle.starting.specs.Start.{Ready, After}
+use Rattle.engine.specs.Opened.{Opened}
 
--- a workspace that is all zero, and an answer buffer that was cleared
-pub run-ready : (book : List ℕ) (wanted budget : ℕ) (ws out out′ : List ℕ) → Accepted book → (length ws ≡ 16384) × (length out ≤ 65536) × (1 ≤ wanted) × (wanted ≤ 64)
-    → ws ≡ replicate (length ws) 0 → out′ ≡ replicate (length out) 0 → Ready book ws out′ wanted budget noCounts
+-- a workspace with its slots open and nothing numbered, and an answer buffer that was cleared
+pub run-ready : (book : List ℕ) (wanted budget : ℕ) (ws out out′ : List ℕ) → Accepted book → (length out ≤ 65536) × (1 ≤ wanted) × (wanted ≤ 64)
+    → Opened ws → out′ ≡ replicate (length out) 0 → Ready book ws out′ wanted budget noCounts
 run-ready book wanted budget ws out out′ A h z o =
     let n : length out′ ≡ length out = ap length o ∙ length-replicate {A = ℕ} (length out) 0 in
-    let at : (k : ℕ) → k < 16384 → getD ws k 0 ≡ 0 = λ k l. ap (λ (x : List ℕ). getD x k 0) z ∙ getD-replicate (length ws) k 0 0 (omega (arith, h .0)) in
     record {
       accepted = A;
-      size = h .0;
-      open-slots = λ k l. at k (omega arith);
-      numbers = λ v l. at (13568 + v) (omega arith);
-      room = omega (arith, h .1);
-      wanted-some = h .2;
-      wanted-most = h .3;
+      size = z .size;
+      open-slots = z .slots;
+      numbers = λ v l. z .memo-and-numbers (13568 + v) (omega arith) (omega arith);
+      memo = λ k l. z .memo-and-numbers (13328 + k) (omega arith) (omega arith);
+      room = omega (arith, h .0);
+      wanted-some = h .1;
+      wanted-most = h .2;
       blank = o ∙ ap (λ (k : ℕ). replicate k 0) (sym n);
       fresh = refl;
     }

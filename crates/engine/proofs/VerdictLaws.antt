@@ -5,7 +5,7 @@ use mathlib.Core.List.{List, [], _∷_}
 use Prim.Native.Nat.{ℕ, zero, suc, _+_, _*_, _%_, _≤_, _<_}
 use native.Mathlib.Omega.{arith}
 use lib.Dec.{eqb, leb, ltb}
-use lib.ListN.{length, replicate, length-replicate}
+use lib.ListN.{length, replicate}
 use borrow.Author.Tests.{ne-eqb}
 use Rattle.book.specs.declared.Verdict.{Verdict}
 use Rattle.book.specs.declared.Verdict.the-variants.{Fine, Refused}
@@ -20,7 +20,8 @@ use Rattle.book.proofs.Tests.{and-true, leb-says, eqb-says}
 use Rattle.machine.specs.declared.Outcome.the-variants.{Declined, Ended}
 use Rattle.machine.specs.declared.Reply.{Reply}
 use Rattle.machine.specs.Call.{Called, noCounts, runOf, accepted, declined, call}
-use Rattle.refusals.specs.Passes.{wordsAfter}
+use Rattle.refusals.specs.Passes.{wordsAfter, testedWords}
+use Rattle.refusals.proofs.WordLaws.{tested-refused}
 
 -- a verdict that is not test 1's
 data Later : Verdict → Type 0 where
@@ -152,12 +153,12 @@ module _ (book : List ℕ) (budget wanted : ℕ) (ws out : List ℕ) where
       go true e = words-later t r e
       go false e = let x : t ≡ 1 = cc in rw x refl
 
-  pub refused : (v : Verdict) (t r : ℕ) (ws′ : List ℕ) → v ≡ verdict (length ws) (length out) wanted book → v ≡ Refused t r → ws′ ≡ wordsAfter (roomFits (length ws) (length out) wanted) ws
+  pub refused : (v : Verdict) (t r : ℕ) (ws′ : List ℕ) → v ≡ verdict (length ws) (length out) wanted book → v ≡ Refused t r → ws′ ≡ testedWords (roomFits (length ws) (length out) wanted) book ws
       → (record { outcome = Declined t r; tally = noCounts } ≡ call book budget wanted ws out .reply) × ((ws′ ≡ call book budget wanted ws out .workspace) × (out ≡ call book budget wanted ws out .out))
   unfolding declined
   refused v t r ws′ e f g =
       let c = call-refused t r (sym e ∙ f) in
-      (ap (λ x. x .reply) (sym c), (g ∙ words-refused t r (sym e ∙ f) ∙ ap (λ x. x .workspace) (sym c), ap (λ x. x .out) (sym c)))
+      (ap (λ x. x .reply) (sym c), (tested-refused ws book (length out) wanted v t r ws′ e f g ∙ words-refused t r (sym e ∙ f) ∙ ap (λ x. x .workspace) (sym c), ap (λ x. x .out) (sym c)))
 
   -- what a call that is taken makes sure of
   pub room-says : roomFits (length ws) (length out) wanted ≡ true → (length ws ≡ 16384) × (length out ≤ 65536) × (1 ≤ wanted) × (wanted ≤ 64)
@@ -169,16 +170,12 @@ module _ (book : List ℕ) (budget wanted : ℕ) (ws out : List ℕ) where
       let d = and-true (leb 1 wanted) (leb wanted 64) (b .1) in
       (eqb-says _ _ (a .0), leb-says _ _ (c .0), leb-says _ _ (d .0), leb-says _ _ (d .1))
 
-  -- it finds the workspace all zero
-  pub taken-ready : (v : Verdict) (ws′ : List ℕ) → v ≡ verdict (length ws) (length out) wanted book → v ≡ Fine → ws′ ≡ wordsAfter (roomFits (length ws) (length out) wanted) ws
-      → Accepted book × (((length ws′ ≡ 16384) × (length out ≤ 65536) × (1 ≤ wanted) × (wanted ≤ 64)) × (ws′ ≡ replicate (length ws′) 0))
-  unfolding wordsAfter
-  taken-ready v ws′ e f g =
+  pub taken-ready : (v : Verdict) (ws′ : List ℕ) → v ≡ verdict (length ws) (length out) wanted book → v ≡ Fine → length ws′ ≡ length ws
+      → Accepted book × ((length ws′ ≡ 16384) × (length out ≤ 65536) × (1 ≤ wanted) × (wanted ≤ 64))
+  taken-ready v ws′ e f n =
       let c = call-accepted (length ws) (length out) wanted book (sym e ∙ f) in
-      let z : ws′ ≡ replicate (length ws) 0 = g ∙ rw (wordsAfter, c .0) refl in
-      let n : length ws′ ≡ length ws = ap length z ∙ length-replicate {A = ℕ} (length ws) 0 in
       let h = room-says (c .0) in
-      (c .1, ((n ∙ h .0, h .1, h .2, h .3), z ∙ ap (λ (k : ℕ). replicate k 0) (sym n)))
+      (c .1, (n ∙ h .0, h .1, h .2, h .3))
 
   pub taken : (v : Verdict) (ws′ : List ℕ) (x : Reply) (words bytes : List ℕ) → v ≡ verdict (length ws) (length out) wanted book → v ≡ Fine → length ws′ ≡ length ws
       → x ≡ accepted (length ws′) (length out) (runOf book budget wanted (length out)) .reply

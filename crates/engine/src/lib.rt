@@ -1,23 +1,33 @@
 // One call: the tests, the run, and the workspace all zero again.
 ghost use mathlib.Core.Path.{_≡_};
 ghost use Prim.Native.Nat.{_≤_};
-ghost use lib.ListN.{length, replicate};
+ghost use lib.ListN.{length};
 ghost use Rattle.book.proofs.Accepted.{Accepted};
 ghost use Rattle.machine.specs.Call.{call, runOf, accepted};
+ghost use Rattle.engine.specs.Opened.{Opened};
 use book::Verdict;
 use machine::Outcome;
 use machine::Reply;
 use machine::Tally;
 
-// A call that is not refused, on a workspace that is all zero.
+// What a run must find as zeros: the slots of the unknowns, and the words of the memo and of an answer's variables, which stand side by side. Of the other words a run asks nothing.
+fn open_words(ws: &mut [u32])
+    requires { ⌜ length (now ws) ≡ 16384 ⌝ }
+    ensures { λ r. ⌜ Opened (now (ws .exit)) ⌝ }
+{
+    pointing::clear(&mut ws[..64]);
+    pointing::clear(&mut ws[13328..15616]);
+}
+
+// A call that is not refused, on any words.
 fn run_accepted(book: &[u8], budget: u32, wanted: u32, ws: &mut [u32], out: &mut [u8]) -> Reply
     requires { ⌜ Accepted (now book) ⌝ }
     requires { ⌜ (length (now ws) ≡ 16384) × (length (now out) ≤ 65536) × (1 ≤ wanted) × (wanted ≤ 64) ⌝ }
-    requires { ⌜ now ws ≡ replicate (length (now ws)) 0 ⌝ }
     ensures { λ r. ⌜ r ≡ accepted (length (now (ws .entry))) (length (now (out .entry))) (runOf (now (book .entry)) budget wanted (length (now (out .entry)))) .reply ⌝ }
     ensures { λ r. ⌜ now (ws .exit) ≡ accepted (length (now (ws .entry))) (length (now (out .entry))) (runOf (now (book .entry)) budget wanted (length (now (out .entry)))) .workspace ⌝ }
     ensures { λ r. ⌜ now (out .exit) ≡ accepted (length (now (ws .entry))) (length (now (out .entry))) (runOf (now (book .entry)) budget wanted (length (now (out .entry)))) .out ⌝ }
 {
+    open_words(ws);
     answers::clear(out);
     let x = lending::counted_run(book, ws, out, wanted, budget);
     pointing::clear(ws);
@@ -35,7 +45,7 @@ pub fn solve(book: &[u8], budget: u32, wanted: u32, workspace: &mut [u32], out: 
     ensures { λ r. ⌜ now (workspace .exit) ≡ call (now (book .entry)) budget wanted (now (workspace .entry)) (now (out .entry)) .workspace ⌝ }
     ensures { λ r. ⌜ now (out .exit) ≡ call (now (book .entry)) budget wanted (now (workspace .entry)) (now (out .entry)) .out ⌝ }
 {
-    match refusals::verdict(book, workspace, out.len(), wanted) {
+    match refusals::tests(book, workspace, out.len(), wanted) {
         Verdict::Refused(t, r) => Reply {
             outcome: Outcome::Declined(t, r),
             tally: Tally {

@@ -27,7 +27,7 @@ use Rattle.branch.proofs.TakeLaws.{goal-unit}
 use Rattle.branch.proofs.SeekChain.{rest-begins}
 use Rattle.branch.proofs.ClauseLaws.{ClauseHere, own-clause}
 use Rattle.steps.specs.Search.{runOn, spentUnits}
-use Rattle.steps.proofs.RunLaws.{unit-on}
+use Rattle.steps.proofs.RunLaws.{none-spent, unit-on}
 use Rattle.following.specs.Plain.{PlainClause, ownProgram, Plain, Chain, Chain.chain-none, Chain.chain-more}
 use Rattle.following.proofs.PlainLaws.{body-in}
 
@@ -133,15 +133,11 @@ module _ (book : List ℕ) (A : Accepted book) (g : ℕ) (x : Branch) (base : �
       (q : Request) (k : ℕ) (y : Tally) (ls : List Line) (ts : List Thread)
       → runOn q (2 * n + k) y ls (solving x ∷ ts) ≡ runOn q k (spentUnits (2 * n) y) ls (solving (along book x gs h (x .taken + n)) ∷ ts)
 
-  none-spent : (y : Tally) → spentUnits 0 y ≡ y
-  unfolding spentUnits
-  none-spent y = rw (add-zero (y .units)) refl
-
   first-rule : (h : ℕ) → Plain book g h → x .taken < 512 → Runs h 1
   first-rule h P l q k y ls ts =
       let a : 2 * 1 + k ≡ suc (suc k) = omega arith in
       let b : x .taken + 1 ≡ suc (x .taken) = omega arith in
-      rw (a, b, ← two-more 0 (2 * 1) y (omega arith), none-spent y) (rule-units book A g h P x base gs goals l room q k y ls ts)
+      rw (a, b, ← two-more 0 (2 * 1) y (omega arith), ← none-spent y) (rule-units book A g h P x base gs goals l room q k y ls ts)
 
   next-rule : (h m j : ℕ) → Runs h m → Plain book h j → x .taken + m < 512 → Runs j (suc m)
   next-rule h m j R P l q k y ls ts =

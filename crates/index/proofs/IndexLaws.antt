@@ -15,7 +15,7 @@ use Rattle.book.specs.Records.{field}
 use Rattle.words.specs.Frame.{Keeps}
 use Rattle.words.proofs.StackLaws.{keeps-refl, keeps-trans, keeps-narrow, keeps-set}
 use Rattle.index.specs.Runs.{headMatches, nextMatch}
-use Rattle.index.specs.Index.{bucketOf, nextIn, entryOf, Indexed, EmptyFrom, IndexedFrom, InBucket}
+use Rattle.index.specs.Index.{headBucket, bucketOf, nextIn, entryOf, Indexed, EmptyFrom, IndexedFrom, InBucket}
 
 -- WHAT nextIn FINDS
 module _ (book : List ℕ) (first b : ℕ) where
@@ -52,28 +52,37 @@ module _ (book : List ℕ) (first b : ℕ) where
   in-this k n h e = let z : n - k ≡ suc (n - (k + 1)) = omega arith in rw (z, nextIn, eq-eqb b (bucketOf book first k) e) refl
 
 -- a clause of another bucket does not match
-other-head : (book : List ℕ) (first f m k : ℕ) → (f % 1024 ≡ bucketOf book first k → ⊥) → headMatches book f m (field book (first + k) 1) ≡ false
+other-head : (book : List ℕ) (first f m k : ℕ) → (headBucket f m ≡ bucketOf book first k → ⊥) → headMatches book f m (field book (first + k) 1) ≡ false
 unfolding headMatches bucketOf
-other-head book first f m k e =
-    let g = field book (field book (field book (first + k) 1) 4) 1 in
-    rw (headMatches, ne-eqb f g (λ (x : f ≡ g). e (ap (λ (y : ℕ). y % 1024) x))) refl
+other-head book first f m k e = go (ℕ-discrete f g) (ℕ-discrete m n)
+  where
+    g : ℕ
+    g = field book (field book (field book (first + k) 1) 4) 1
 
--- up to the next clause of f's bucket nothing matches
-bucket-skips : (book : List ℕ) (first f m k j : ℕ) → nextMatch book f m first k j ≡ nextMatch book f m first (nextIn book first (f % 1024) k j) (k + j - nextIn book first (f % 1024) k j)
+    n : ℕ
+    n = field book (field book (field book (first + k) 1) 4) 2
+
+    go : Dec (f ≡ g) → Dec (m ≡ n) → headMatches book f m (field book (first + k) 1) ≡ false
+    go (no x) y = rw (headMatches, ne-eqb f g x) refl
+    go (yes x) (no y) = rw (headMatches, eq-eqb f g x, ne-eqb m n y) refl
+    go (yes x) (yes y) = absurd (e (rw (x, y) refl))
+
+-- up to the next clause of the head's bucket nothing matches
+bucket-skips : (book : List ℕ) (first f m k j : ℕ) → nextMatch book f m first k j ≡ nextMatch book f m first (nextIn book first (headBucket f m) k j) (k + j - nextIn book first (headBucket f m) k j)
 unfolding nextIn nextMatch
 bucket-skips book first f m k zero = let z : k + 0 - k ≡ 0 = omega arith in rw z refl
-bucket-skips book first f m k (suc j) = go (eqb (f % 1024) (bucketOf book first k)) refl (bucket-skips book first f m (suc k) j)
+bucket-skips book first f m k (suc j) = go (eqb (headBucket f m) (bucketOf book first k)) refl (bucket-skips book first f m (suc k) j)
   where
     N : ℕ
-    N = nextIn book first (f % 1024) (suc k) j
+    N = nextIn book first (headBucket f m) (suc k) j
 
-    go : (t : Bool) → eqb (f % 1024) (bucketOf book first k) ≡ t
+    go : (t : Bool) → eqb (headBucket f m) (bucketOf book first k) ≡ t
         → nextMatch book f m first (suc k) j ≡ nextMatch book f m first N (suc k + j - N)
         → nextMatch book f m first k (suc j) ≡ nextMatch book f m first (elim t [ true ↦ k | false ↦ N ]) (k + suc j - elim t [ true ↦ k | false ↦ N ])
     go true e ih = let z : k + suc j - k ≡ suc j = omega arith in rw z refl
     go false e ih =
         let z : k + suc j ≡ suc k + j = omega arith in
-        let d = other-head book first f m k (λ x. let y = eq-eqb (f % 1024) (bucketOf book first k) x in let w : _≡_ {A = ℕ} 0 1 = cc in absurd (omega arith)) in
+        let d = other-head book first f m k (λ x. let y = eq-eqb (headBucket f m) (bucketOf book first k) x in let w : _≡_ {A = ℕ} 0 1 = cc in absurd (omega arith)) in
         rw (nextMatch, d) (ih ∙ ap (λ (n : ℕ). nextMatch book f m first N (n - N)) (sym z))
 
 -- so the word of the index may be taken for k
@@ -81,7 +90,7 @@ module _ (book : List ℕ) (first n k r : ℕ) (h : k ≤ n) where
   pub skip-within : (b : ℕ) → r ≡ nextIn book first b k (n - k) → InBucket book first n b r
   skip-within b e = let x = in-bounds book first b k (n - k) in record { within = rw e (omega (arith, x .1)); bucket = λ l. rw e (in-found book first b k (n - k) (omega (arith, e, l))) }
 
-  pub skip-same : (f m : ℕ) → r ≡ nextIn book first (f % 1024) k (n - k) → nextMatch book f m first r (n - r) ≡ nextMatch book f m first k (n - k)
+  pub skip-same : (f m : ℕ) → r ≡ nextIn book first (headBucket f m) k (n - k) → nextMatch book f m first r (n - r) ≡ nextMatch book f m first k (n - k)
   skip-same f m e = rw e (sym (bucket-skips book first f m k (n - k) ∙ (let z : k + (n - k) ≡ n = omega arith in rw z refl)))
 
 -- THE WORD OF A CLAUSE
@@ -199,48 +208,49 @@ indexed-same book first n m K I = record
     { firsts = λ b h. K .same (4096 + b) (omega arith) (omega arith) ∙ I .firsts b h; nexts = λ i h. K .same (5120 + i) (omega arith) (omega arith) ∙ I .nexts i h }
 
 -- THE CODE'S STEPS ALONG THE INDEX
-module _ (book : List ℕ) (first n : ℕ) (ws : List ℕ) (f : ℕ) (I : Indexed book first n ws) where
-  abbrev b : ℕ
-  b = f % 1024
-
-  module _ (m : n ≤ 1024) where
+module _ (book : List ℕ) (first n : ℕ) (ws : List ℕ) (I : Indexed book first n ws) where
+  module _ (most : n ≤ 1024) (b : ℕ) (c : b < 1024) where
     -- the number in the bucket's word
     first-is : getD ws (4096 + b) 0 % 4096 ≡ nextIn book first b 0 (n - 0)
     first-is =
         let z : n - 0 ≡ n = omega arith in
-        ap (λ (x : ℕ). x % 4096) (I .firsts b (omega arith)) ∙ entry-number book first n m _ (omega (arith, in-bounds book first b 0 n .1)) ∙ rw z refl
+        ap (λ (x : ℕ). x % 4096) (I .firsts b c) ∙ entry-number book first n most _ (omega (arith, in-bounds book first b 0 n .1)) ∙ rw z refl
 
-    pub first-bucket : InBucket book first n b (getD ws (4096 + b) 0 % 4096)
-    first-bucket = skip-within book first n 0 _ (omega arith) b first-is
+    module _ (f m : ℕ) (e : b ≡ headBucket f m) where
+      first-of : getD ws (4096 + b) 0 % 4096 ≡ nextIn book first (headBucket f m) 0 (n - 0)
+      first-of = first-is ∙ ap (λ (x : ℕ). nextIn book first x 0 (n - 0)) e
 
-    pub first-skips : (k r : ℕ) → r ≡ nextMatch book f k first (getD ws (4096 + b) 0 % 4096) (n - getD ws (4096 + b) 0 % 4096) → r ≡ nextMatch book f k first 0 n
-    first-skips k r e = let z : n - 0 ≡ n = omega arith in e ∙ skip-same book first n 0 _ (omega arith) f k first-is ∙ rw z refl
+      pub first-bucket : InBucket book first n (headBucket f m) (getD ws (4096 + b) 0 % 4096)
+      first-bucket = skip-within book first n 0 _ (omega arith) (headBucket f m) first-of
+
+      pub first-skips : (r : ℕ) → r ≡ nextMatch book f m first (getD ws (4096 + b) 0 % 4096) (n - getD ws (4096 + b) 0 % 4096) → r ≡ nextMatch book f m first 0 n
+      first-skips r d = let z : n - 0 ≡ n = omega arith in d ∙ skip-same book first n 0 _ (omega arith) f m first-of ∙ rw z refl
 
     -- and the record, if it is the clause's
     pub first-record : (i : ℕ) → i < n → getD ws (4096 + b) 0 % 4096 ≡ i → getD ws (4096 + b) 0 / 4096 ≡ field book (first + i) 1
     first-record i h e =
         let z : n - 0 ≡ n = omega arith in
         let d : nextIn book first b 0 n ≡ i = (rw z at (sym first-is)) ∙ e in
-        ap (λ (x : ℕ). x / 4096) (I .firsts b (omega arith) ∙ ap (entryOf book first n) d) ∙ entry-clause book first n m i h
+        ap (λ (x : ℕ). x / 4096) (I .firsts b c ∙ ap (entryOf book first n) d) ∙ entry-clause book first n most i h
 
-  module _ (i : ℕ) (h : i < n) (e : bucketOf book first i ≡ b) where
-    next-is : getD ws (5120 + i) 0 ≡ nextIn book first b (i + 1) (n - (i + 1))
+  module _ (f m i : ℕ) (h : i < n) (e : bucketOf book first i ≡ headBucket f m) where
+    next-is : getD ws (5120 + i) 0 ≡ nextIn book first (headBucket f m) (i + 1) (n - (i + 1))
     next-is = I .nexts i h ∙ ap (λ (x : ℕ). nextIn book first x (i + 1) (n - (i + 1))) e
 
-    pub next-bucket : InBucket book first n b (getD ws (5120 + i) 0)
-    next-bucket = skip-within book first n (i + 1) _ (omega arith) b next-is
+    pub next-bucket : InBucket book first n (headBucket f m) (getD ws (5120 + i) 0)
+    next-bucket = skip-within book first n (i + 1) _ (omega arith) (headBucket f m) next-is
 
     pub next-later : i < getD ws (5120 + i) 0
-    next-later = rw next-is (omega (arith, in-bounds book first b (i + 1) (n - (i + 1)) .0))
+    next-later = rw next-is (omega (arith, in-bounds book first (headBucket f m) (i + 1) (n - (i + 1)) .0))
 
-    pub next-skips : (m : ℕ) → nextMatch book f m first (getD ws (5120 + i) 0) (n - getD ws (5120 + i) 0) ≡ nextMatch book f m first (i + 1) (n - (i + 1))
-    next-skips m = skip-same book first n (i + 1) _ (omega arith) f m next-is
+    pub next-skips : nextMatch book f m first (getD ws (5120 + i) 0) (n - getD ws (5120 + i) 0) ≡ nextMatch book f m first (i + 1) (n - (i + 1))
+    next-skips = skip-same book first n (i + 1) _ (omega arith) f m next-is
 
--- a clause that matches is in its symbol's bucket
-pub matching-bucket : (book : List ℕ) (first f m i : ℕ) → headMatches book f m (field book (first + i) 1) ≡ true → bucketOf book first i ≡ f % 1024
+-- a clause that matches is in its head's bucket
+pub matching-bucket : (book : List ℕ) (first f m i : ℕ) → headMatches book f m (field book (first + i) 1) ≡ true → bucketOf book first i ≡ headBucket f m
 unfolding bucketOf
-matching-bucket book first f m i e = go (ℕ-discrete (f % 1024) (bucketOf book first i))
+matching-bucket book first f m i e = go (ℕ-discrete (headBucket f m) (bucketOf book first i))
   where
-    go : Dec (f % 1024 ≡ bucketOf book first i) → bucketOf book first i ≡ f % 1024
+    go : Dec (headBucket f m ≡ bucketOf book first i) → bucketOf book first i ≡ headBucket f m
     go (yes x) = sym x
     go (no x) = let y = other-head book first f m i x in let z : _≡_ {A = Bool} true false = sym e ∙ y in let w : _≡_ {A = ℕ} 0 1 = cc in absurd (omega arith)

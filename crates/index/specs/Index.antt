@@ -1,4 +1,4 @@
--- An index of a run of at most 1,024 clauses by head symbol. The buckets are the symbols' ten lowest bits.
+-- An index of a run of at most 1,024 clauses by head symbol and argument count, in 1,024 buckets.
 -- Word 4096 + b is the number of the first clause in bucket b, with the clause's record, and word 5120 + i the number of the next clause in clause i's bucket; n, the length of the run, is none.
 use mathlib.Core.Path.{_≡_}
 use mathlib.Core.Bool.{Bool, true, false}
@@ -9,9 +9,13 @@ use lib.ListN.{getD}
 use Rattle.book.specs.Records.{field}
 use Rattle.words.specs.Frame.{Keeps}
 
+-- the bucket of a head with symbol f and m arguments
+abbrev pub headBucket : ℕ → ℕ → ℕ
+headBucket f m = (f + 64 * m) % 1024
+
 -- the bucket of clause i of the run from link `first` on
 unfoldable pub bucketOf : List ℕ → ℕ → ℕ → ℕ
-bucketOf book first i = field book (field book (field book (first + i) 1) 4) 1 % 1024
+bucketOf book first i = headBucket (field book (field book (field book (first + i) 1) 4) 1) (field book (field book (field book (first + i) 1) 4) 2)
 
 -- the first of the j clauses from number k on that is in bucket b, or k + j
 unfoldable pub nextIn : List ℕ → ℕ → ℕ → ℕ → ℕ → ℕ

@@ -6,7 +6,7 @@ ghost use lib.ListN.{length, getD, set};
 ghost use Rattle.book.specs.Records.{field as bookField, records};
 ghost use Rattle.words.specs.Readable.{Readable};
 ghost use Rattle.index.specs.Runs.{headMatches, nextMatch, ClauseRun};
-ghost use Rattle.index.specs.Index.{bucketOf, Indexed, EmptyFrom, IndexedFrom, InBucket};
+ghost use Rattle.index.specs.Index.{headBucket, bucketOf, Indexed, EmptyFrom, IndexedFrom, InBucket};
 
 // Whether the head of clause c has symbol f and m arguments.
 fn head_matches(book: &[u8], c: u32, f: u32, m: u32) -> bool
@@ -41,7 +41,15 @@ pub fn seek_run(book: &[u8], first: u32, n: u32, k: u32, f: u32, m: u32) -> u32
     i
 }
 
-// The bucket of clause i of a run: its head symbol, by its ten lowest bits.
+// The bucket of a head with symbol f and m arguments.
+fn head_bucket(f: u32, m: u32) -> u32
+    requires { ⌜ (f < 65536) × (m < 65536) ⌝ }
+    ensures { λ r. ⌜ (r ≡ headBucket f m) × (r < 1024) ⌝ }
+{
+    (f + 64 * m) % 1024
+}
+
+// The bucket of clause i of a run.
 fn bucket(book: &[u8], first: u32, n: u32, i: u32) -> u32
     requires { ⌜ Readable (now book) ⌝ }
     requires { ⌜ ClauseRun (now book) first n ⌝ }
@@ -51,7 +59,8 @@ fn bucket(book: &[u8], first: u32, n: u32, i: u32) -> u32
     let c = words::field(book, first + i, 1);
     let h = words::field(book, c, 4);
     let g = words::field(book, h, 1);
-    g % 1024
+    let m = words::field(book, h, 2);
+    head_bucket(g, m)
 }
 
 // Empties the index: no bucket has a clause of a run of n.
@@ -92,7 +101,7 @@ fn match_along(book: &[u8], ws: &[u32], first: u32, n: u32, j: u32, f: u32, m: u
     requires { ⌜ ClauseRun (now book) first n ⌝ }
     requires { ⌜ (first < 4096) × (n ≤ 1024) × (length (now ws) ≡ 16384) ⌝ }
     requires { ⌜ Indexed (now book) first n (now ws) ⌝ }
-    requires { ⌜ InBucket (now book) first n (f % 1024) j ⌝ }
+    requires { ⌜ InBucket (now book) first n (headBucket f m) j ⌝ }
     ensures { λ r. ⌜ r ≡ nextMatch (now (book .entry)) f m first j (n - j) ⌝ }
 {
     let mut i = j;
@@ -112,13 +121,14 @@ pub fn first_match(book: &[u8], ws: &[u32], first: u32, n: u32, f: u32, m: u32) 
     requires { ⌜ ClauseRun (now book) first n ⌝ }
     requires { ⌜ (first < 4096) × (n ≤ 1024) × (length (now ws) ≡ 16384) ⌝ }
     requires { ⌜ Indexed (now book) first n (now ws) ⌝ }
+    requires { ⌜ (f < 65536) × (m < 65536) ⌝ }
     ensures { λ r. ⌜ r ≡ nextMatch (now (book .entry)) f m first 0 n ⌝ }
 {
-    let j = ws[(4096 + f % 1024) as usize] % 4096;
+    let j = ws[(4096 + head_bucket(f, m)) as usize] % 4096;
     match_along(book, ws, first, n, j, f, m)
 }
 
-// The record of clause i of an indexed run of n. If it is the first of bucket f's, which it mostly is, its record is in the bucket's word, and no link is waited for.
+// The record of clause i of an indexed run of n. If it is the first in the bucket of symbol f without arguments, its record is in the bucket's word, and no link is waited for.
 pub fn clause_at(book: &[u8], ws: &[u32], first: u32, n: u32, f: u32, i: u32) -> u32
     requires { ⌜ Readable (now book) ⌝ }
     requires { ⌜ ClauseRun (now book) first n ⌝ }

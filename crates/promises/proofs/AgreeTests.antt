@@ -16,6 +16,7 @@ use Rattle.records.proofs.read_record.Reads as records-read-record-reads
 use Rattle.records.proofs.record_at.Reads as records-record-at-reads
 use Rattle.records.proofs.number_at.Reads as records-number-at-reads
 use Rattle.records.proofs.field.Reads as records-field-reads
+use Rattle.refusals.proofs.tests.Reads as refusals-tests-reads
 use Rattle.refusals.proofs.verdict.Reads as refusals-verdict-reads
 use Rattle.scope.proofs.scope_test.Reads as scope-scope-test-reads
 use Rattle.targets.proofs.targets_fit.Reads as targets-targets-fit-reads
@@ -71,6 +72,9 @@ records-number-at κs a r r′ s s′ p q = p ∙ sym q
 
 pub records-field : (κs : _) (a : _) (r r′ : _) (s s′ : _) → records-field-reads.Post κs a r s → records-field-reads.Post κs a r′ s′ → r ≡ r′
 records-field κs a r r′ s s′ p q = p ∙ sym q
+
+pub refusals-tests : (κs : _) (a : _) (r r′ : _) (s s′ : _) → refusals-tests-reads.Post κs a r s → refusals-tests-reads.Post κs a r′ s′ → (r ≡ r′) × (s .1 .0 .now ≡ s′ .1 .0 .now)
+refusals-tests κs a r r′ s s′ p q = (p .0 ∙ sym (q .0), p .1 ∙ sym (q .1))
 
 pub refusals-verdict : (κs : _) (a : _) (r r′ : _) (s s′ : _) → refusals-verdict-reads.Post κs a r s → refusals-verdict-reads.Post κs a r′ s′ → (r ≡ r′) × (s .1 .0 .now ≡ s′ .1 .0 .now)
 refusals-verdict κs a r r′ s s′ p q = (p .0 ∙ sym (q .0), p .1 ∙ sym (q .1))

@@ -13,7 +13,10 @@ use Rattle.words.specs.Frame.{undo}
 use Rattle.words.proofs.StackLaws.{keeps-narrow}
 use Rattle.index.proofs.IndexLaws.{indexed-same}
 use Rattle.branch.specs.Seeking.{OwnReady, OwnIndexed}
-use Rattle.steps.proofs.LeaveLaws.{leaves-trans, leaves-between}
+use Rattle.branch.specs.Memo.{Memo}
+use Rattle.branch.proofs.MemoLaws.{memo-kept}
+use Rattle.steps.proofs.RunLaws.{none-spent}
+use Rattle.steps.proofs.LeaveLaws.{leaves-between}
 use Rattle.words.proofs.FrameLaws.{undo-keeps}
 use Rattle.branch.specs.declared.Back.{Back}
 use Rattle.branch.specs.State.{ownRun, IsBranch}
@@ -21,23 +24,17 @@ use Rattle.branch.specs.Alternatives.{backOf, BackReady}
 use Rattle.steps.specs.declared.Regs.{Regs}
 use Rattle.steps.specs.declared.Stepped.{Stepped}
 use Rattle.steps.specs.declared.Stepped.the-variants.{Onward, Finished}
-use Rattle.steps.specs.Search.{runOn, spentUnits, topsOf, Leaves, Stands, Stands.in-hand, StepGives, StepGives.steps-on, StepGives.steps-end}
+use Rattle.steps.specs.Search.{runOn, spentUnits, topsOf, Leaves, Stands, Stands.in-hand, StepGives, StepGives.steps-on, MemoStepped}
 use Rattle.returning.specs.Returns.{ToClause, Returned, Returned.to-goal, Returned.to-clause}
 use Rattle.returning.specs.Reentry.{regsAgain, Tries}
 use Rattle.returning.specs.declared.Reached.{Reached}
 use Rattle.returning.specs.declared.Reached.the-variants.{Onward as ReachedOn, Finished as ReachedEnd, Clause}
 use Rattle.returning.specs.Passing.{regsGone, laterBy}
-use Rattle.returning.specs.Reaching.{ReachGives, ReachGives.reach-on, ReachGives.reach-end, ReachGives.reach-clause, CanGoOn, CanGoOn.is-on, CanGoOn.is-end, CanGoOn.is-clause, GoesOn}
-use Rattle.returning.proofs.PassLaws.{pass-none, after-pass}
+use Rattle.returning.specs.Reaching.{ReachGives, ReachGives.reach-on, ReachGives.reach-end, ReachGives.reach-clause, CanGoOn, CanGoOn.is-on, CanGoOn.is-end, CanGoOn.is-clause, GoesOn, MemoReached}
+use Rattle.returning.proofs.PassLaws.{pass-none, after-pass, gives-from}
 use Rattle.returning.proofs.RenewLaws.{atom-large}
-use Rattle.returning.proofs.CandidateLaws.{none-spent}
 use Rattle.returning.proofs.TryLaws.{flag-back}
-use Rattle.returning.proofs.ReturnLaws.{stands-back, Newest, newest, returned}
-
--- a step from a workspace that differs only elsewhere
-gives-from : {book ws ws₁ ws₂ : List ℕ} {r : Regs} {left : ℕ} {threads : List Thread} {o : Stepped} → Leaves ws ws₁ → StepGives book ws₁ ws₂ r left threads o → StepGives book ws ws₂ r left threads o
-gives-from K (steps-on {r′ = r′} {used = used} {threads′ = threads′} a b c d e) = steps-on {r′ = r′} {used = used} {threads′ = threads′} a b (leaves-trans K c) d e
-gives-from K (steps-end {e = e} {used = used} a b c) = steps-end {e = e} {used = used} a (b ∙ K .index .size) c
+use Rattle.returning.proofs.ReturnLaws.{stands-back, Newest, newest, newest-programs, returned}
 
 module _ (book : List ℕ) (ws : List ℕ) (r : Regs) (threads : List Thread) (e : r .solving ≡ false) (Z : Stands book ws r threads) (some : r .alternatives ≡ 0 → ⊥) where
   abbrev k : ℕ
@@ -55,6 +52,14 @@ module _ (book : List ℕ) (ws : List ℕ) (r : Regs) (threads : List Thread) (e
 
     here : Returned book ws₁ k x threads
     here = rw (we, xe, last .is) (returned book ws (topsOf r) k (last .thread) (last .ts) (last .resumed))
+
+    -- going back has the programs of before
+    memo-back : (left : ℕ) → Memo book ws (r .programs) left → Memo book ws₁ (x .programs) (left - 0)
+    memo-back left M =
+        let U = undo-keeps (r .trail - backOf ws k .trail) (backOf ws k .trail) ws (back-ready .small) in
+        let h = newest-programs k (omega arith) (stands-back e Z .1) in
+        let S = stands-back e Z .0 in
+        rw (we, xe) (memo-kept (keeps-narrow (omega arith) (omega (arith, S .programs-most)) U) (keeps-narrow (omega arith) (omega arith) U) h (omega arith) M)
 
     clause-here : (x .atom ≡ 0 → ⊥) → ToClause book ws₁ k x threads
     clause-here h = go here
@@ -77,8 +82,21 @@ module _ (book : List ℕ) (ws : List ℕ) (r : Regs) (threads : List Thread) (e
               (λ q y ls. ap (λ (t : Tally). runOn q left t ls (solving b ∷ ts)) (none-spent y) ∙ ap (λ (n : ℕ). runOn q n (spentUnits 0 y) ls (solving b ∷ ts)) (sym (sub-zero left)))
           go (to-clause {threads = us} X) = absurd (omega (arith, atom-large book ws₁ k x us X))
 
+      pub goal-memo : (s : Regs) → s ≡ regsAgain x k → Memo book ws (r .programs) left → MemoReached book ws₁ left (ReachedOn 0 s)
+      unfolding MemoReached
+      goal-memo s se M = rw se (memo-back left M)
+
+      pub clause-memo : Memo book ws (r .programs) left → MemoReached book ws₁ left (Clause 0 x k)
+      unfolding MemoReached
+      clause-memo M = memo-back left M
+
       pub clause-reached : (x .atom ≡ 0 → ⊥) → ReachGives book ws ws₁ r left threads (Clause 0 x k)
       clause-reached h = reach-clause {x = x} {k = k} {used = 0} {threads′ = threads} (omega arith) (rw e (omega arith)) stays (clause-here h) (pass-none left threads)
+
+-- none left: nothing to remember
+pub memo-done : (book ws : List ℕ) (left used : ℕ) (d : Ending) → MemoReached book ws left (ReachedEnd d used)
+unfolding MemoReached
+memo-done book ws left used d = tt
 
 -- GOING ON
 module _ {book ws ws′ : List ℕ} {left : ℕ} where
@@ -109,6 +127,16 @@ module _ {book ws ws′ : List ℕ} {left : ℕ} where
           let ke : i ≡ j = cc in
           let ne : m ≡ n = cc in
           gives-from L (after-pass {r₀ = regsGone x j} (rw (← ne) a) (omega (arith, b, ne)) (rw ne at P) (T (regsGone x j) us refl (rw (xe, ke) at X)))
+
+-- the memo
+module _ (book ws : List ℕ) (left n : ℕ) where
+  pub memo-on : (s : Regs) (o : Reached) → o ≡ ReachedOn n s → MemoReached book ws left o → MemoStepped book ws left (Onward n s)
+  unfolding MemoReached MemoStepped
+  memo-on s o d M = rw d at M
+
+  pub memo-asked : (x : Back) (j : ℕ) (o : Reached) → o ≡ Clause n x j → MemoReached book ws left o → Memo book ws (x .programs) (left - n)
+  unfolding MemoReached
+  memo-asked x j o d M = rw d at M
 
 -- what it asks for
 module _ {book ws : List ℕ} {left : ℕ} where

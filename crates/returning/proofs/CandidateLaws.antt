@@ -4,9 +4,8 @@ use mathlib.Core.Bool.{Bool, true, false}
 use mathlib.Core.List.{List, _∷_}
 use Prim.Native.Nat.{ℕ, suc, _+_, _-_, _≤_, _<_}
 use native.Mathlib.Omega.{arith}
-use native.Mathlib.Nat.{add-zero}
 use borrow.Author.Tests.{lt-leb}
-use lib.ListN.{length, take, length-map, length-take}
+use lib.ListN.{length}
 use Rattle.book.specs.Records.{field}
 use Rattle.book.specs.Tree.{variablesOf}
 use Rattle.book.specs.Decode.{clauseOf}
@@ -16,27 +15,23 @@ use Rattle.machine.specs.declared.Limit.the-variants.{Budget, Variables}
 use Rattle.machine.specs.declared.Ending.the-variants.{Stopped as StoppedEnding}
 use Rattle.machine.specs.declared.Tally.{Tally}
 use Rattle.machine.specs.Machine.{Thread, entering, Force, stop, advance, enter, candidates}
-use Rattle.words.specs.Words.{entryW, storeOf}
 use Rattle.words.specs.Readable.{Readable}
 use Rattle.words.specs.Good.{Slots}
 use Rattle.words.specs.Frame.{TrailFits}
 use Rattle.branch.specs.declared.Back.{Back}
 use Rattle.index.specs.Runs.{headMatches}
+use Rattle.branch.proofs.StateLaws.{store-made}
 use Rattle.branch.proofs.ClauseLaws.{ClauseHere}
 use Rattle.branch.proofs.SeekLaws.{clause-candidate}
 use Rattle.steps.specs.declared.Regs.{Regs}
 use Rattle.steps.specs.declared.Stepped.the-variants.{Finished}
 use Rattle.steps.specs.Enters.{EnterReady}
-use Rattle.steps.specs.Search.{spentUnits, StepGives, StepGives.steps-end}
-use Rattle.steps.proofs.RunLaws.{unit-stop, unit-none}
+use Rattle.steps.specs.Search.{StepGives, StepGives.steps-end}
+use Rattle.steps.proofs.RunLaws.{none-spent, unit-stop, unit-none}
 use Rattle.steps.proofs.ReadyLaws.{enter-ready}
 use Rattle.returning.specs.Returns.{Leads, atomOf, ToClause}
 use Rattle.returning.specs.Reentry.{placeOf}
 use Rattle.returning.proofs.PlaceLaws.{place-here}
-
-pub none-spent : (y : Tally) → y ≡ spentUnits 0 y
-unfolding spentUnits
-none-spent y = rw (add-zero (y .units)) refl
 
 -- a list is not longer than itself
 not-longer : {T : Type 0} (z : T) (l : List T) → l ≡ z ∷ l → ⊥
@@ -76,8 +71,7 @@ module _ (book : List ℕ) (R : Readable book) (A : Accepted book) (ws : List �
 
   -- THE LIMIT: an entry would make more than 2,048 variables on the branch
   pub made-now : length (X .b .store) ≡ x .made
-  unfolding storeOf
-  made-now = rw (X .again .there .store) (length-map (take (x .made) ws) (entryW book) ∙ length-take (x .made) ws ∙ omega (arith, X .again .sound .slots .size, X .again .sound .slots .room))
+  made-now = store-made (X .again .sound) (X .again .there)
 
   pub variables-now : variablesOf (X .f .text) ≡ field book clauseNow 1
   variables-now = rw (clause-now .is) (clause-variables book (A .formed) clauseNow (clause-now .inside) (clause-now .kind))

@@ -7,6 +7,7 @@ pub mod CandidateLaws
 pub mod BodyGoals
 pub mod ClashUnits
 pub mod ClashLaws
+pub mod MemoFrames
 pub mod PassLaws
 pub mod TryLaws
 pub mod TryNeeds

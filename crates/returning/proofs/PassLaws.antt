@@ -27,20 +27,24 @@ use Rattle.branch.specs.declared.Candidate.{Candidate}
 use Rattle.branch.specs.declared.Candidate.the-variants.{At, Nothing}
 use Rattle.branch.specs.State.{IsRest}
 use Rattle.branch.specs.Seeking.{Sought, Sought.sought, Sought.no-more}
+use Rattle.branch.specs.Memo.{Memo, MemoStays}
+use Rattle.branch.proofs.MemoLaws.{memo-less, stays-none, stays-trans}
 use Rattle.steps.specs.declared.Regs.{Regs}
 use Rattle.steps.specs.declared.Stepped.{Stepped}
 use Rattle.steps.specs.declared.Stepped.the-variants.{Onward, Finished}
-use Rattle.steps.specs.Search.{runOn, spentUnits, phase, Stands.going-back, StepGives, StepGives.steps-on, StepGives.steps-end}
+use Rattle.steps.specs.Search.{runOn, spentUnits, phase, Stands.going-back, StepGives, StepGives.steps-on, StepGives.steps-end, Leaves, MemoStepped}
 use Rattle.steps.proofs.ReadyLaws.{has-atom}
-use Rattle.steps.proofs.LeaveLaws.{leaves-none}
+use Rattle.steps.proofs.RunLaws.{none-spent}
+use Rattle.steps.proofs.LeaveLaws.{leaves-none, leaves-trans, leaves-only}
 use Rattle.returning.specs.declared.Passed.{Passed}
 use Rattle.returning.specs.declared.Passed.the-variants.{Next, Through}
 use Rattle.returning.specs.Returns.{Again, Candidates, atomOf, ToClause}
 use Rattle.returning.specs.Reentry.{placeOf, moved}
-use Rattle.returning.specs.Passing.{firstArgument, FirstIs, Clashes, Passes, NextIs, OnePass, OnePass.moves, OnePass.gone, PassGives, PassGives.comes, PassGives.ends, regsGone, unitsOf, laterBy}
+use Rattle.returning.specs.Passing.{firstArgument, FirstIs, Clashes, Passes, NextIs, OnePass, OnePass.moves, OnePass.gone, PassGives, PassGives.comes, PassGives.ends, regsGone, laterBy}
 use Rattle.returning.proofs.RenewLaws.{atom-record, atom-base, standing, here}
-use Rattle.returning.proofs.CandidateLaws.{clauseNow, clause-now, can-enter, none-spent, no-budget}
+use Rattle.returning.proofs.CandidateLaws.{clauseNow, clause-now, can-enter, no-budget}
 use Rattle.returning.proofs.ClashLaws.{first-ready, first-good, pass-units}
+use Rattle.returning.proofs.MemoFrames.{clause-only, first-only}
 
 -- THE TEST OF A CLAUSE
 module _ (book : List ℕ) (made w c h l u r : ℕ) (he : h ≡ field book c 4) (le : l ≡ field book h 3) (ue : u ≡ field book l 1) (re : r ≡ w / 4096 - 1) where
@@ -160,12 +164,14 @@ module _ (book : List ℕ) (R : Readable book) (A : Accepted book) (ws : List �
                 (λ p n t ls. runs p n t ls ∙ ap (λ (cs : List Force). runOn p n (spentUnits 2 t) ls (tryAll (X .b) (atomOf book (X .a) (X .e) (X .program)) cs ++ X .ts)) z)
             go Nothing (no-more z) = gone {b = X .b} {ts = X .ts} (X .again) (λ p n t ls. runs p n t ls ∙ ap (λ (cs : List Force). runOn p n (spentUnits 2 t) ls (tryAll (X .b) (atomOf book (X .a) (X .e) (X .program)) cs ++ X .ts)) z)
 
--- THE LOOP
-pub record PassInv (book ws : List ℕ) (k : ℕ) (x : Back) (left w : ℕ) (y : Back) (used : ℕ) : Type 0 where
+-- THE LOOP, from workspace ws₀
+pub record PassInv (book ws₀ ws : List ℕ) (k : ℕ) (x : Back) (left w : ℕ) (y : Back) (used : ℕ) : Type 0 where
   pub within : used ≤ left
+  pub programs : y .programs ≡ x .programs
+  pub memo : MemoStays book (x .programs) ws₀ ws
   pub first : 4096 ≤ w → FirstIs book ws (y .made) (y .atom / 4096 - 1) (y .atom % 4096) w
   pub some : (threads : List Thread) × ToClause book ws k y threads
-  pub passes : (threads : List Thread) → ToClause book ws k x threads → (threads′ : List Thread) × ToClause book ws k y threads′ × Passes left used threads threads′
+  pub passes : (threads : List Thread) → ToClause book ws₀ k x threads → (threads′ : List Thread) × ToClause book ws k y threads′ × Passes left used threads threads′
 
 pub pass-none : (left : ℕ) (threads : List Thread) → Passes left 0 threads threads
 pass-none left threads q y ls = ap (λ (t : Tally). runOn q left t ls threads) (none-spent y) ∙ ap (λ (n : ℕ). runOn q n (spentUnits 0 y) ls threads) (sym (sub-zero left))
@@ -180,22 +186,40 @@ two-more left used ts us vs h P u q y ls =
     let a : left - used ≡ suc (suc (left - (used + 2))) = omega arith in
     P q y ls ∙ ap (λ (n : ℕ). runOn q n (spentUnits used y) ls us) a ∙ u q (left - (used + 2)) (spentUnits used y) ls ∙ ap (λ (t : Tally). runOn q (left - (used + 2)) t ls vs) (spent-two used y)
 
-module _ {book ws : List ℕ} {k : ℕ} {x : Back} {left w : ℕ} where
-  pub inv-start : (4096 ≤ w → FirstIs book ws (x .made) (x .atom / 4096 - 1) (x .atom % 4096) w) → (threads : List Thread) × ToClause book ws k x threads → PassInv book ws k x left w x 0
-  inv-start F S = record { within = omega arith; first = F; some = S; passes = λ ts X. (ts, X, pass-none left ts) }
+pub inv-start : {book ws : List ℕ} {k : ℕ} {x : Back} {left w : ℕ} → (4096 ≤ w → FirstIs book ws (x .made) (x .atom / 4096 - 1) (x .atom % 4096) w) → (threads : List Thread) × ToClause book ws k x threads
+    → PassInv book ws ws k x left w x 0
+inv-start {book} {ws} {x = x} {left = left} F S = record { within = omega arith; programs = refl; memo = stays-none book (x .programs) ws; first = F; some = S; passes = λ ts X. (ts, X, pass-none left ts) }
 
-  pub inv-next : (y : Back) (used : ℕ) (o : Candidate) → PassInv book ws k x left w y used → NextIs book ws y o → (threads : List Thread) → ToClause book ws k x threads → PassGives book ws k x left threads (Next y o used)
-  inv-next y used o I N ts X = let p = I .passes ts X in comes {threads′ = p .0} (I .within) N (p .1) (p .2)
+module _ {book ws₀ ws : List ℕ} {k : ℕ} {x : Back} {left w : ℕ} where
+  -- the memo where the search is asked
+  pub inv-memo : (y : Back) (used n : ℕ) → PassInv book ws₀ ws k x left w y used → Memo book ws₀ (x .programs) n → (m : ℕ) × Memo book ws (y .programs) m
+  inv-memo y used n I M = (n, rw (I .programs) (I .memo .1 n M))
+
+  -- the search has written the memo
+  pub inv-sought : {ws′ : List ℕ} (y : Back) (used : ℕ) → PassInv book ws₀ ws k x left w y used → MemoStays book (y .programs) ws ws′ → PassInv book ws₀ ws′ k x left w y used
+  inv-sought y used I M = record {
+    within = I .within;
+    programs = I .programs;
+    memo = stays-trans (I .memo) (rw (I .programs) at M);
+    first = λ l. first-only (M .0) (I .some .1 .again .sound .slots .room) (I .first l);
+    some = (I .some .0, clause-only (M .0) (I .some .1));
+    passes = λ ts X. let p = I .passes ts X in (p .0, clause-only (M .0) (p .1), p .2);
+  }
+
+  pub inv-next : (y : Back) (used : ℕ) (o : Candidate) → PassInv book ws₀ ws k x left w y used → NextIs book ws y o → (threads : List Thread) → ToClause book ws₀ k x threads → PassGives book ws k x left threads (Next y o used)
+  inv-next y used o I N ts X = let p = I .passes ts X in comes {threads′ = p .0} (I .programs) (I .within) N (p .1) (p .2)
 
   -- the candidate y clashes, and the one after it is o
-  module _ (R : Readable book) (A : Accepted book) (y : Back) (used : ℕ) (I : PassInv book ws k x left w y used) (h : 1 < left - used) (c : ℕ) (ce : c ≡ placeOf book ws (y .node) (y .index) .clause)
+  module _ (R : Readable book) (A : Accepted book) (y : Back) (used : ℕ) (I : PassInv book ws₀ ws k x left w y used) (h : 1 < left - used) (c : ℕ) (ce : c ≡ placeOf book ws (y .node) (y .index) .clause)
       (l : 4096 ≤ w) (C : Clashes book (y .made) w c) (o : Candidate) (N : NextIs book ws y o) where
     one : (ts : List Thread) → ToClause book ws k y ts → OnePass book ws k y ts o
     one ts X = one-pass book R A ws k y ts X w (I .first l) c ce (C .room) C o N
 
-    pub inv-more : (q i : ℕ) (y′ : Back) → o ≡ At q i → y′ ≡ moved y q i → PassInv book ws k x left w y′ (used + 2)
+    pub inv-more : (q i : ℕ) (y′ : Back) → o ≡ At q i → y′ ≡ moved y q i → PassInv book ws₀ ws k x left w y′ (used + 2)
     inv-more q i y′ e d = rw d (record {
       within = omega (arith, I .within);
+      programs = I .programs;
+      memo = I .memo;
       first = I .first;
       some = let s = onto (I .some .0) (one (I .some .0) (I .some .1)) e in (s .0, s .1);
       passes = λ ts X. let p = I .passes ts X in let s = onto (p .0) (one (p .0) (p .1)) e in (s .0, s .1, two-more left used ts (p .0) (s .0) h (p .2) (s .2));
@@ -206,11 +230,11 @@ module _ {book ws : List ℕ} {k : ℕ} {x : Back} {left w : ℕ} where
         onto ts (moves {q = a} {i = b} {threads′ = us} Y u) e = let v : a ≡ q = cc in let z : b ≡ i = cc in (us, rw (v, z) at Y, u)
         onto ts (gone G u) e = let z : _≡_ {A = ℕ} 0 1 = cc in absurd (omega arith)
 
-    pub inv-gone : o ≡ Nothing → (threads : List Thread) → ToClause book ws k x threads → PassGives book ws k x left threads (Through y (used + 2))
+    pub inv-gone : o ≡ Nothing → (threads : List Thread) → ToClause book ws₀ k x threads → PassGives book ws k x left threads (Through y (used + 2))
     inv-gone e ts X = let p = I .passes ts X in go (one (p .0) (p .1)) e (p .2)
       where
         go : {o : Candidate} {us : List Thread} → OnePass book ws k y us o → o ≡ Nothing → Passes left used ts us → PassGives book ws k x left ts (Through y (used + 2))
-        go {us = us} (gone {b = b} {ts = vs} G u) e Q = ends {y = y} {used = used + 2} {b = b} {ts = vs} (omega arith) (omega (arith, I .within)) G (two-more left used ts us vs h Q u)
+        go {us = us} (gone {b = b} {ts = vs} G u) e Q = ends {y = y} {used = used + 2} {b = b} {ts = vs} (I .programs) (omega arith) (omega (arith, I .within)) G (two-more left used ts us vs h Q u)
         go (moves Y u) e Q = let z : _≡_ {A = ℕ} 0 1 = cc in absurd (omega arith)
 
 -- A STEP AFTER IT
@@ -231,46 +255,62 @@ after-pass {left = left} {used = used} {threads′ = us} h f P (steps-end {e = x
     (λ q y ls. P q y ls ∙ e q (spentUnits used y) ls ∙ ap (λ (t : Tally). record { ending = x; tally = t; lines = ls }) (spent-both used n y))
 
 came-to : {book ws : List ℕ} {k : ℕ} {x : Back} {left : ℕ} {threads : List Thread} {p : Passed} (y : Back) (o : Candidate) (used : ℕ) → PassGives book ws k x left threads p → p ≡ Next y o used
-    → (used ≤ left) × ((threads′ : List Thread) × ToClause book ws k y threads′ × Passes left used threads threads′) × NextIs book ws y o
-came-to y o used (comes {y = a} {o = d} {used = b} {threads′ = us} h N Y P) e =
+    → (used ≤ left) × ((threads′ : List Thread) × ToClause book ws k y threads′ × Passes left used threads threads′) × NextIs book ws y o × (y .programs ≡ x .programs)
+came-to y o used (comes {y = a} {o = d} {used = b} {threads′ = us} g h N Y P) e =
     let v : a ≡ y = cc in
     let w : b ≡ used = cc in
     let z : d ≡ o = cc in
-    (rw (← w) h, (us, rw v at Y, rw w at P), rw (v, z) at N)
-came-to y o used (ends a b G P) e = let z : _≡_ {A = ℕ} 0 1 = cc in absurd (omega arith)
+    (rw (← w) h, (us, rw v at Y, rw w at P), rw (v, z) at N, rw v at g)
+came-to y o used (ends g a b G P) e = let z : _≡_ {A = ℕ} 0 1 = cc in absurd (omega arith)
 
-module _ (book : List ℕ) (R : Readable book) (A : Accepted book) (ws : List ℕ) (k : ℕ) (x : Back) (left : ℕ) (o : Passed)
-    (P : (threads : List Thread) → ToClause book ws k x threads → PassGives book ws k x left threads o) where
+-- a step from a workspace that differs only elsewhere
+pub gives-from : {book ws ws₁ ws₂ : List ℕ} {r : Regs} {left : ℕ} {threads : List Thread} {o : Stepped} → Leaves ws ws₁ → StepGives book ws₁ ws₂ r left threads o → StepGives book ws ws₂ r left threads o
+gives-from K (steps-on {r′ = r′} {used = used} {threads′ = threads′} a b c d e) = steps-on {r′ = r′} {used = used} {threads′ = threads′} a b (leaves-trans K c) d e
+gives-from K (steps-end {e = e} {used = used} a b c) = steps-end {e = e} {used = used} a (b ∙ K .index .size) c
+
+-- the candidates are passed over from workspace ws₀, which leaves ws
+module _ (book : List ℕ) (R : Readable book) (A : Accepted book) (ws₀ ws : List ℕ) (k : ℕ) (x : Back) (left : ℕ) (o : Passed)
+    (P : (threads : List Thread) → ToClause book ws₀ k x threads → PassGives book ws k x left threads o) (M : MemoStays book (x .programs) ws₀ ws) where
+  from-there : {ws′ : List ℕ} {r : Regs} {threads : List Thread} {s : Stepped} → StepGives book ws ws′ r left threads s → StepGives book ws₀ ws′ r left threads s
+  from-there S = gives-from (leaves-only (M .0)) S
+
   module _ (y : Back) (next : Candidate) (used : ℕ) (e : o ≡ Next y next used) where
-    pub pass-some : (threads : List Thread) × ToClause book ws k x threads → (used ≤ left) × ((threads : List Thread) × ToClause book ws k y threads) × NextIs book ws y next
+    pub pass-some : (threads : List Thread) × ToClause book ws₀ k x threads → (used ≤ left) × ((threads : List Thread) × ToClause book ws k y threads) × NextIs book ws y next
     pass-some s = let p = came-to y next used (P (s .0) (s .1)) e in (p .0, (p .1 .0, p .1 .1), p .2)
 
-    pub pass-budget : (r : Regs) → left ≤ used → (threads : List Thread) → ToClause book ws k x threads → StepGives book ws ws r left threads (Finished (StoppedEnding Budget) used)
+    pub pass-memo : (threads : List Thread) × ToClause book ws₀ k x threads → Memo book ws₀ (x .programs) left → Memo book ws (y .programs) (left - used)
+    pass-memo s N = let p = came-to y next used (P (s .0) (s .1)) e in memo-less (omega (arith, p .3)) (omega arith) (M .1 left N)
+
+    pub pass-budget : (r : Regs) → left ≤ used → (threads : List Thread) → ToClause book ws₀ k x threads → StepGives book ws₀ ws r left threads (Finished (StoppedEnding Budget) used)
     unfolding laterBy
     pass-budget r l threads X =
         let p = came-to y next used (P threads X) e in
         let z : used + 0 ≡ used = omega arith in
         let S = after-pass {r = r} {r₀ = r} (p .0) (omega arith) (p .1 .2) (no-budget book R A ws k y (p .1 .0) (p .1 .1) r (left - used) (omega arith)) in
-        rw z at S
+        from-there (rw z at S)
 
     pub pass-next : (r : Regs) (ws′ : List ℕ) (s t : Stepped) → ((threads : List Thread) → ToClause book ws k y threads → StepGives book ws ws′ r (left - used) threads s) → t ≡ laterBy used s
-        → (threads : List Thread) → ToClause book ws k x threads → StepGives book ws ws′ r left threads t
-    pass-next r ws′ s t T d threads X = let p = came-to y next used (P threads X) e in rw d (after-pass {r₀ = r} (p .0) (omega arith) (p .1 .2) (T (p .1 .0) (p .1 .1)))
+        → (threads : List Thread) → ToClause book ws₀ k x threads → StepGives book ws₀ ws′ r left threads t
+    pass-next r ws′ s t T d threads X = let p = came-to y next used (P threads X) e in rw d (from-there (after-pass {r₀ = r} (p .0) (omega arith) (p .1 .2) (T (p .1 .0) (p .1 .1))))
 
-  pub pass-through : (y : Back) (used : ℕ) → o ≡ Through y used → (r g : Regs) → r .solving ≡ false → g ≡ regsGone y k → (threads : List Thread) → ToClause book ws k x threads → StepGives book ws ws r left threads (Onward used g)
-  pass-through y used e r g s d threads X = rw d (go (P threads X) e)
-    where
-      go : {o : Passed} → PassGives book ws k x left threads o → o ≡ Through y used → StepGives book ws ws r left threads (Onward used (regsGone y k))
-      go (ends {y = a} {used = b} {ts = ts} h l G Q) e =
-          let v : a ≡ y = cc in let w : b ≡ used = cc in
-          let G′ = rw v at G in
-          steps-on {r′ = regsGone y k} {used = used} {threads′ = ts} (omega (arith, l, w)) (rw s (omega (arith, h, w))) (leaves-none ws) (going-back refl (G′ .sound) (G′ .waiting)) (rw w at Q)
-      go (comes h N Y Q) e = let z : _≡_ {A = ℕ} 0 1 = cc in absurd (omega arith)
+  module _ (y : Back) (used : ℕ) (e : o ≡ Through y used) (g : Regs) (d : g ≡ regsGone y k) where
+    pub pass-through : (r : Regs) → r .solving ≡ false → (threads : List Thread) → ToClause book ws₀ k x threads → StepGives book ws₀ ws r left threads (Onward used g)
+    pass-through r s threads X = rw d (from-there (go (P threads X) e))
+      where
+        go : {o : Passed} → PassGives book ws k x left threads o → o ≡ Through y used → StepGives book ws ws r left threads (Onward used (regsGone y k))
+        go (ends {y = a} {used = b} {ts = ts} i h l G Q) e =
+            let v : a ≡ y = cc in let w : b ≡ used = cc in
+            let G′ = rw v at G in
+            steps-on {r′ = regsGone y k} {used = used} {threads′ = ts} (omega (arith, l, w)) (rw s (omega (arith, h, w))) (leaves-none ws) (going-back refl (G′ .sound) (G′ .waiting)) (rw w at Q)
+        go (comes i h N Y Q) e = let z : _≡_ {A = ℕ} 0 1 = cc in absurd (omega arith)
 
--- the units of a step are within what is left
-pub units-most : {book ws ws′ : List ℕ} {r : Regs} {left : ℕ} {threads : List Thread} {s : Stepped} → StepGives book ws ws′ r left threads s → unitsOf s ≤ left
-units-most (steps-on a b c d e) = a
-units-most (steps-end a b c) = a
+    pub through-memo : (threads : List Thread) × ToClause book ws₀ k x threads → Memo book ws₀ (x .programs) left → MemoStepped book ws left (Onward used g)
+    unfolding MemoStepped
+    through-memo s N = rw d (memo-less (go (P (s .0) (s .1)) e) (omega arith) (M .1 left N))
+      where
+        go : {o : Passed} → PassGives book ws k x left (s .0) o → o ≡ Through y used → y .programs ≤ x .programs
+        go (ends {y = a} i h l G Q) e = let v : a ≡ y = cc in omega (arith, rw v at i)
+        go (comes i h N Y Q) e = let z : _≡_ {A = ℕ} 0 1 = cc in absurd (omega arith)
 
 pub never {ℓ} : {X : Type ℓ} → _≡_ {A = Bool} false true → X
 never e = let z : _≡_ {A = ℕ} 0 1 = cc in absurd (omega arith)

@@ -45,13 +45,13 @@ module _ (book : List ℕ) (R : Readable book) (A : Accepted book) (ws : List �
     pub put-top : q < top
     put-top = at-put .below
 
-    pub put-large : 4096 ≤ getD ws (8200 + 2 * q) 0
+    pub put-large : 4096 ≤ getD ws (8200 + 3 * q) 0
     put-large = rw (at-put .word) (pack-large (at-put .s) (at-put .b))
 
-    rec-is : recOf (getD ws (8200 + 2 * q) 0) ≡ at-put .s
+    rec-is : recOf (getD ws (8200 + 3 * q) 0) ≡ at-put .s
     rec-is = rw (at-put .word) (rec-pack (at-put .s) (at-put .b) (at-put .base))
 
-    base-is : baseOf (getD ws (8200 + 2 * q) 0) ≡ at-put .b
+    base-is : baseOf (getD ws (8200 + 3 * q) 0) ≡ at-put .b
     base-is = rw (at-put .word) (base-pack (at-put .s) (at-put .b) (at-put .base))
 
     -- the place after it is one of the same run
@@ -61,11 +61,11 @@ module _ (book : List ℕ) (R : Readable book) (A : Accepted book) (ws : List �
         let e : Y .s ≡ at-put .s = sym (rw (Y .word) (rec-pack (Y .s) (Y .b) (Y .base))) ∙ rec-is in
         omega (arith, rw e at (Y .most))
 
-    pub put-inside : (w : ℕ) → w ≡ getD ws (8200 + 2 * q) 0 → w / 4096 - 1 < records book
+    pub put-inside : (w : ℕ) → w ≡ getD ws (8200 + 3 * q) 0 → w / 4096 - 1 < records book
     unfolding recOf
     put-inside w e = rw (e, rec-is) (at-put .here .inside)
 
-    pub put-link : (w first : ℕ) → w ≡ getD ws (8200 + 2 * q) 0 → first ≡ field book (w / 4096 - 1) 1 → first + i < records book
+    pub put-link : (w first : ℕ) → w ≡ getD ws (8200 + 3 * q) 0 → first ≡ field book (w / 4096 - 1) 1 → first + i < records book
     unfolding recOf
     put-link w first e d =
         let y = suppose-run book R (A .formed) (at-put .s) (at-put .here .inside) (at-put .kind) in
@@ -74,7 +74,7 @@ module _ (book : List ℕ) (R : Readable book) (A : Accepted book) (ws : List �
     nonzero : q ≡ 0 → ⊥
     nonzero e = omega arith
 
-    pub put-place : (w first c : ℕ) → w ≡ getD ws (8200 + 2 * q) 0 → first ≡ field book (w / 4096 - 1) 1 → c ≡ field book (first + i) 1
+    pub put-place : (w first c : ℕ) → w ≡ getD ws (8200 + 3 * q) 0 → first ≡ field book (w / 4096 - 1) 1 → c ≡ field book (first + i) 1
         → record { clause = c; outer = w % 4096 } ≡ placeOf book ws q i
     unfolding placeOf recOf baseOf
     put-place w first c e d l = rw (placeOf, l, d, e, ne-eqb q 0 nonzero) refl

@@ -1,6 +1,6 @@
 -- The alternative for the candidates after the one that is tried.
 use mathlib.Core.Path.{_≡_, refl, _∙_, ap}
-use mathlib.Core.Logic.{inr}
+use mathlib.Core.Logic.{inl, inr}
 use mathlib.Core.List.{List, [], _∷_}
 use Prim.Native.Nat.{ℕ, suc, _+_, _-_, _*_, _/_, _%_, _≤_, _<_}
 use native.Mathlib.Omega.{arith}
@@ -84,7 +84,7 @@ module _ (book : List ℕ) (ws : List ℕ) (k : ℕ) (x : Back) (threads : List 
   pub renew-drops : candidates (field book (X .a) 1) (field book (X .a) 2) (X .after) ≡ [] → Renewed book ws ws k x threads X k
   unfolding tryAll
   renew-drops e = record
-      { below = keeps-refl 0 (9232 + 8 * k) ws; leaves = leaves-none ws; most = omega arith; waiting = rw e (X .again .waiting) }
+      { below = keeps-refl 0 (9744 + 7 * k) ws; memo = keeps-refl 13328 13568 ws; leaves = leaves-none ws; most = omega arith; waiting = rw e (X .again .waiting) }
 
   module _ (q i : ℕ) (f : Force) (after : List Force) (C : IsClause book ws (x .made) (x .programs) q i f after) where
     abbrev kk : k < 512
@@ -117,7 +117,8 @@ module _ (book : List ℕ) (ws : List ℕ) (k : ℕ) (x : Back) (threads : List 
         (X .again .waiting) in
         let z : suc k ≡ k + 1 = omega arith in
         record {
-          below = kept-outside ws k (moved x q i) kk (S .slots .size) 0 (9232 + 8 * k) (inr (omega arith));
+          below = kept-outside ws k (moved x q i) kk (S .slots .size) 0 (9744 + 7 * k) (inr (omega arith));
+          memo = kept-outside ws k (moved x q i) kk (S .slots .size) 13328 13568 (inl (omega (arith, kk)));
           leaves = leaves-kept ws k (moved x q i) kk (S .slots .size);
           most = omega arith;
           waiting = rw (d, ← z) W;

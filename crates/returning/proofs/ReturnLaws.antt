@@ -2,7 +2,7 @@
 use mathlib.Core.Path.{_≡_, refl, sym, _∙_, ap}
 use mathlib.Core.Bool.{Bool, true, false}
 use mathlib.Core.List.{List, [], _∷_}
-use Prim.Native.Nat.{ℕ, suc, _+_, _-_, _*_, _<_}
+use Prim.Native.Nat.{ℕ, suc, _+_, _-_, _*_, _≤_, _<_}
 use native.Mathlib.Omega.{arith}
 use lib.ListN.{getD}
 use Rattle.machine.specs.declared.Ending.the-variants.{Complete}
@@ -17,10 +17,10 @@ use Rattle.branch.specs.Alternatives.{backOf}
 use Rattle.branch.proofs.BackLaws.{low, high, Resumed, resume}
 use Rattle.steps.specs.declared.Regs.{Regs}
 use Rattle.steps.specs.declared.Stepped.the-variants.{Finished}
+use Rattle.steps.proofs.RunLaws.{none-spent}
 use Rattle.steps.specs.Search.{runOut, runOn, topsOf, Stands, Stands.in-hand, Stands.going-back, StepGives, StepGives.steps-end}
 use Rattle.returning.specs.Returns.{topsAt, Again, Returned, Returned.to-goal, Returned.to-clause}
 use Rattle.returning.proofs.RenewLaws.{goals-below}
-use Rattle.returning.proofs.CandidateLaws.{none-spent}
 
 tops-same : (x : Back) (t : Tops) (k : ℕ) → x .made ≡ t .made → x .trail ≡ t .trail → x .cells ≡ t .cells → x .programs ≡ t .programs → t .alternatives ≡ k → topsAt x k ≡ t
 tops-same x t k a b c d e = rw (a, b, c, d, ← e) refl
@@ -53,6 +53,16 @@ pub newest : {book ws : List ℕ} {t : Tops} {threads : List Thread} (k : ℕ) �
 newest k e S (none-waiting a) = absurd (omega arith)
 newest {book} {ws} {t} k e S (one-waiting {k = j} {x = x} {b = b} {thread = thread} {threads = ts} a h c d f g Sx B Y W) = record
     { thread = thread; ts = ts; is = refl; resumed = resume k e S (one-waiting {k = j} {x = x} {b = b} {thread = thread} {threads = ts} a h c d f g Sx B Y W) }
+
+-- it has no more programs than there are now
+pub newest-programs : {book ws : List ℕ} {t : Tops} {threads : List Thread} (k : ℕ) → t .alternatives ≡ suc k → Waiting book ws t threads → backOf ws k .programs ≤ t .programs
+unfolding backOf
+newest-programs k e (none-waiting a) = absurd (omega arith)
+newest-programs {ws = ws} {t = t} k e (one-waiting {k = j} {x = x} a h c d f g Sx B Y W) =
+    let q : j ≡ k = omega arith in
+    let l = rw q at (h .lists) in
+    let p : backOf ws k .programs ≡ x .tops .programs = high (x .tops .programs) (x .tops .cells) _ (omega (arith, Sx .cells-most)) l in
+    omega (arith, p, g)
 
 -- THE NUMBERS as the code reads them
 module _ (book : List ℕ) (ws : List ℕ) (t : Tops) (k : ℕ) (thread : Thread) (ts : List Thread) (Y : Resumed book ws t k thread ts) where
@@ -102,8 +112,8 @@ module _ (book : List ℕ) (ws : List ℕ) (t : Tops) (k : ℕ) (thread : Thread
   }
 
   -- a word of the alternative
-  word : (i : ℕ) → i < 8 → getD now (9232 + 8 * k + i) 0 ≡ getD ws (9232 + 8 * k + i) 0
-  word i h = stays .same (9232 + 8 * k + i) (omega arith) (omega (arith, Y .ready .below))
+  word : (i : ℕ) → i < 7 → getD now (9744 + 7 * k + i) 0 ≡ getD ws (9744 + 7 * k + i) 0
+  word i h = stays .same (9744 + 7 * k + i) (omega arith) (omega (arith, Y .ready .below))
 
   pub returned : Returned book now k x (thread ∷ ts)
   unfolding backOf

@@ -2,7 +2,7 @@
 use mathlib.Core.Path.{_≡_, refl, sym, _∙_, ap}
 use mathlib.Core.Bool.{Bool, true, false}
 use mathlib.Core.List.{List, _∷_, _++_}
-use Prim.Native.Nat.{ℕ, suc, _+_, _-_, _≤_, _<_}
+use Prim.Native.Nat.{ℕ, suc, _+_, _-_, _*_, _≤_, _<_}
 use native.Mathlib.Omega.{arith}
 use lib.Dec.{eqb}
 use Rattle.book.specs.Records.{field}
@@ -24,10 +24,12 @@ use Rattle.unifier.specs.Moves.{Went, Went.done, Went.fails, Went.full, Went.sp
 use Rattle.branch.specs.declared.Back.{Back}
 use Rattle.branch.specs.State.{Tops, IsBranch, Sound, Waiting, Agree, flag}
 use Rattle.branch.proofs.StateLaws.{goals-agree}
+use Rattle.branch.specs.Memo.{Memo}
+use Rattle.branch.proofs.MemoLaws.{memo-kept}
 use Rattle.steps.specs.declared.Regs.{Regs}
 use Rattle.steps.specs.declared.Stepped.the-variants.{Onward, Finished}
 use Rattle.steps.specs.Enters.{EnterReady, Enters}
-use Rattle.steps.specs.Search.{Leaves, runOn, spentUnits, topsOf, Stands.in-hand, Stands.going-back, StepGives, StepGives.steps-on, StepGives.steps-end}
+use Rattle.steps.specs.Search.{Leaves, runOn, spentUnits, topsOf, Stands.in-hand, Stands.going-back, StepGives, StepGives.steps-on, StepGives.steps-end, MemoStepped}
 use Rattle.steps.proofs.EnterRuns.{forceHere, branchHere}
 use Rattle.steps.proofs.EnterWaits.{enters-sound, waiting-enters}
 use Rattle.steps.proofs.BackRuns.{entered-done, entered-failed, entered-stopped}
@@ -87,6 +89,22 @@ module _ (book : List ℕ) (R : Readable book) (A : Accepted book) (ws : List �
 
     steps-keep : Leaves ws ws₃
     steps-keep = leaves-trans (N .leaves) (leaves-trans (D .leaves) (leaves-between (omega arith) entered-keeps))
+
+    -- the programs and the memo are not touched
+    memo-still : (left′ : ℕ) → left′ ≤ left → Memo book ws (x .programs) left → Memo book ws₃ (x .programs) left′
+    memo-still left′ h M =
+        let K : Keeps 8200 (8200 + 3 * x .programs) ws₂ ws₃ = keeps-narrow (omega arith) (omega (arith, D .sound .programs-most)) entered-keeps in
+        memo-kept (keeps-trans (agree-renewed book R A ws k x threads X ws₁ n N room .programs) (keeps-trans (D .agree .programs) K))
+        (keeps-trans (N .memo) (keeps-trans (D .memo) (keeps-narrow (omega arith) (omega arith) entered-keeps))) (omega arith) h M
+
+    pub try-memo : Memo book ws (x .programs) left → MemoStepped book ws₃ left (outcomeOf x made n l u)
+    unfolding MemoStepped
+    try-memo M = by (u .how) refl
+      where
+        by : (how : How) → u .how ≡ how → MemoStepped book ws₃ left (outcomeOf x made n l u)
+        by Done h = rw (← outcome-done x made n l u h) (memo-still (left - (u .used + 1)) (omega arith) M)
+        by Failed h = rw (← outcome-failed x made n l u h) (memo-still (left - (u .used + 1)) (omega arith) M)
+        by (Stopped m) h = rw (← outcome-stopped x made n l u m h) tt
 
     sound-after : Sound book ws₃ (topsOf (regsOf x made n l (u .trail) true))
     sound-after = enters-sound book (topsWith x (x .made) l n) ws₂ ws₃ (X .a) (X .e) c o (left - 1) u (D .sound) E

@@ -17,7 +17,8 @@ use Rattle.steps.specs.declared.Regs.{Regs}
 use Rattle.steps.specs.declared.Stepped.{Stepped}
 use Rattle.steps.specs.declared.Stepped.the-variants.{Finished}
 use Rattle.steps.specs.Enters.{EnterReady, Enters}
-use Rattle.steps.specs.Search.{StepGives}
+use Rattle.branch.specs.Memo.{Memo}
+use Rattle.steps.specs.Search.{StepGives, MemoStepped}
 use Rattle.returning.specs.declared.InForce.{InForce}
 use Rattle.returning.specs.declared.Front.{Front}
 use Rattle.returning.specs.Returns.{ToClause}
@@ -25,7 +26,7 @@ use Rattle.returning.specs.Reentry.{placeOf, Renewed, bodyWords, frontOf
 use Rattle.returning.proofs.RenewLaws.{atom-record, atom-base, goals-below}
 use Rattle.returning.proofs.CandidateLaws.{clauseNow, outerNow, clause-now, too-many}
 use Rattle.returning.proofs.BodyGoals.{Ready, body-ready}
-use Rattle.returning.proofs.TryLaws.{enter-now, used-most, try-gives}
+use Rattle.returning.proofs.TryLaws.{enter-now, used-most, try-memo, try-gives}
 
 -- the code has the place in p and the clause's number of variables in v
 module _ (book : List ℕ) (R : Readable book) (A : Accepted book) (ws : List ℕ) (k : ℕ) (x : Back) (threads : List Thread) (X : ToClause book ws k x threads)
@@ -72,6 +73,10 @@ module _ (book : List ℕ) (R : Readable book) (A : Accepted book) (ws : List �
 
           pub units-fit : u .used + 1 ≤ left
           units-fit = omega (arith, used-most book R A ws k x threads X ws₁ n (N threads X) room-is ws₂ l ready-is ws₃ left u some enters-is)
+
+          pub tried-memo : (made : ℕ) → made ≡ x .made + v → (s : Stepped) → s ≡ outcomeOf x made n l u → Memo book ws (x .programs) left → MemoStepped book ws₃ left s
+          tried-memo made me s se M =
+              rw (se, me, made-is) (try-memo book R A ws k x threads X ws₁ n (N threads X) room-is ws₂ l ready-is ws₃ left u some enters-is M)
 
           pub tried : (r : Regs) → r .solving ≡ false → (made : ℕ) → made ≡ x .made + v → (s : Stepped) → s ≡ outcomeOf x made n l u → StepGives book ws ws₃ r left threads s
           tried r back made me s se =

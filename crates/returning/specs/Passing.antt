@@ -60,18 +60,13 @@ pub data OnePass (book ws : List ℕ) (k : ℕ) (x : Back) (threads : List Threa
 
 -- all that clash are passed over, with so many units: the candidate that is next, and the one after it; or there is none left
 pub data PassGives (book ws : List ℕ) (k : ℕ) (x : Back) (left : ℕ) (threads : List Thread) : Passed → Type 0 where
-  comes : {y : Back} {o : Candidate} {used : ℕ} {threads′ : List Thread} → used ≤ left → NextIs book ws y o → ToClause book ws k y threads′ → Passes left used threads threads′
+  comes : {y : Back} {o : Candidate} {used : ℕ} {threads′ : List Thread} → y .programs ≡ x .programs → used ≤ left → NextIs book ws y o → ToClause book ws k y threads′ → Passes left used threads threads′
       → PassGives book ws k x left threads (Next y o used)
-  ends : {y : Back} {used : ℕ} {b : Branch} {ts : List Thread} → 0 < used → used ≤ left → Again book ws k y b ts → Passes left used threads ts → PassGives book ws k x left threads (Through y used)
+  ends : {y : Back} {used : ℕ} {b : Branch} {ts : List Thread} → y .programs ≡ x .programs → 0 < used → used ≤ left → Again book ws k y b ts → Passes left used threads ts → PassGives book ws k x left threads (Through y used)
 
 -- the registers for going back from an alternative that has no candidate left
 abbrev pub regsGone : Back → ℕ → Regs
 regsGone x n = regsOf x (x .made) n (record { cell = x .cell; cells = x .cells }) (x .trail) false
-
--- the units of a step
-abbrev pub unitsOf : Stepped → ℕ
-unitsOf (Onward n r) = n
-unitsOf (Finished e n) = n
 
 -- a step after so many units more
 unfoldable pub laterBy : ℕ → Stepped → Stepped

@@ -1,9 +1,10 @@
 -- What a step of the code has reached before a candidate is tried, and going on from it.
 use mathlib.Core.List.{List}
-use Prim.Native.Nat.{ℕ, _+_, _*_, _≤_, _<_}
+use Prim.Native.Nat.{ℕ, _+_, _-_, _*_, _≤_, _<_}
 use Rattle.machine.specs.Machine.{Thread}
 use Rattle.branch.specs.declared.Back.{Back}
 use Rattle.branch.specs.Seeking.{OwnIndexed}
+use Rattle.branch.specs.Memo.{Memo}
 use Rattle.machine.specs.declared.Ending.{Ending}
 use Rattle.steps.specs.declared.Regs.{Regs}
 use Rattle.steps.specs.declared.Stepped.{Stepped}
@@ -29,6 +30,12 @@ pub data CanGoOn (book ws : List ℕ) (left : ℕ) : Reached → Type 0 where
   is-on : {r : Regs} {used : ℕ} → CanGoOn book ws left (ReachedOn used r)
   is-end : {e : Ending} {used : ℕ} → CanGoOn book ws left (ReachedEnd e used)
   is-clause : {x : Back} {k used : ℕ} {threads : List Thread} → used ≤ left → OwnIndexed book ws → ToClause book ws k x threads → CanGoOn book ws left (Clause used x k)
+
+-- the memo where a step that had `left` units has come to
+unfoldable pub MemoReached : List ℕ → List ℕ → ℕ → Reached → Type 0
+MemoReached book ws left (ReachedOn used r) = Memo book ws (r .programs) (left - used)
+MemoReached book ws left (ReachedEnd e used) = Unit {0}
+MemoReached book ws left (Clause used x k) = Memo book ws (x .programs) (left - used)
 
 -- whatever step reached this: with going on from it, it is a step of the search
 abbrev pub GoesOn : List ℕ → List ℕ → List ℕ → ℕ → Reached → Stepped → Type 0

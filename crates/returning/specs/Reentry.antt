@@ -27,7 +27,7 @@ use Rattle.returning.specs.Returns.{topsAt, atomOf, ToClause}
 unfoldable pub placeOf : List ℕ → List ℕ → ℕ → ℕ → InForce
 placeOf book ws q i = elim (eqb q 0) [
   | true ↦ record { clause = field book (field book (lastRecord book) 1 + i) 1; outer = 0 }
-  | false ↦ record { clause = field book (field book (recOf (getD ws (8200 + 2 * q) 0)) 1 + i) 1; outer = baseOf (getD ws (8200 + 2 * q) 0) }
+  | false ↦ record { clause = field book (field book (recOf (getD ws (8200 + 3 * q) 0)) 1 + i) 1; outer = baseOf (getD ws (8200 + 3 * q) 0) }
 ]
 
 -- the alternative with the next candidate at clause i of program q
@@ -37,7 +37,8 @@ moved x q i = record
 
 -- the alternative for the candidates after this one is kept in the place of k; with none it is dropped, and there are n now
 pub record Renewed (book ws ws′ : List ℕ) (k : ℕ) (x : Back) (threads : List Thread) (X : ToClause book ws k x threads) (n : ℕ) : Type 0 where
-  pub below : Keeps 0 (9232 + 8 * k) ws ws′
+  pub below : Keeps 0 (9744 + 7 * k) ws ws′
+  pub memo : Keeps 13328 13568 ws ws′
   pub leaves : Leaves ws ws′
   pub most : n ≤ k + 1
   pub waiting : Waiting book ws′ (topsAt x n) (tryAll (X .b) (atomOf book (X .a) (X .e) (X .program)) (candidates (field book (X .a) 1) (field book (X .a) 2) (X .after)) ++ X .ts)

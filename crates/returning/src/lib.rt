@@ -2,7 +2,7 @@
 ghost use mathlib.Core.Path.{_≡_};
 ghost use mathlib.Core.Bool.{true, false};
 ghost use mathlib.Core.List.{List};
-ghost use Prim.Native.Nat.{_+_, _-_, _*_, _/_, _%_, _≤_, _<_};
+ghost use Prim.Native.Nat.{ℕ, _+_, _-_, _*_, _/_, _%_, _≤_, _<_};
 ghost use lib.ListN.{length};
 ghost use Rattle.book.specs.Records.{field as bookField, records};
 ghost use Rattle.book.proofs.Accepted.{Accepted};
@@ -10,11 +10,12 @@ ghost use Rattle.machine.specs.Machine.{Thread};
 ghost use Rattle.words.specs.Readable.{Readable};
 ghost use Rattle.words.specs.Words.{recOf};
 ghost use Rattle.branch.specs.Seeking.{OwnIndexed};
-ghost use Rattle.steps.specs.Search.{Stands};
+ghost use Rattle.branch.specs.Memo.{Memo, MemoStays};
+ghost use Rattle.steps.specs.Search.{Stands, unitsOf, MemoStepped};
 ghost use Rattle.returning.specs.Returns.{Leads, ToClause};
 ghost use Rattle.returning.specs.Reentry.{placeOf, moved, Renewed, bodyWords, frontOf, regsAgain, outcomeOf, Tries};
-ghost use Rattle.returning.specs.Reaching.{ReachContract, CanGoOn, GoesOn};
-ghost use Rattle.returning.specs.Passing.{firstArgument, FirstIs, Clashes, NextIs, PassGives, regsGone, unitsOf, laterBy};
+ghost use Rattle.returning.specs.Reaching.{ReachContract, CanGoOn, GoesOn, MemoReached};
+ghost use Rattle.returning.specs.Passing.{firstArgument, FirstIs, Clashes, NextIs, PassGives, regsGone, laterBy};
 use branch::Back;
 use branch::Candidate;
 use machine::Ending;
@@ -52,7 +53,7 @@ fn place(book: &[u8], ws: &[u32], x: Back) -> InForce
             outer: 0,
         };
     }
-    let w = ws[(8200 + 2 * x.node) as usize];
+    let w = ws[(8200 + 3 * x.node) as usize];
     let first = words::field(book, w / 4096 - 1, 1);
     let c = words::field(book, first + x.index, 1);
     InForce {
@@ -220,11 +221,13 @@ fn passes(book: &[u8], ws: &[u32], k: u32, x: Back, w: u32) -> bool
 }
 
 // The candidate after the next one.
-fn after_next(book: &[u8], ws: &[u32], k: u32, x: Back) -> Candidate
+fn after_next(book: &[u8], ws: &mut [u32], k: u32, x: Back) -> Candidate
     requires { ⌜ Readable (now book) ⌝ }
     requires { ⌜ Accepted (now book) × OwnIndexed (now book) (now ws) ⌝ }
     requires { ⌜ ((threads : List Thread) × ToClause (now book) (now ws) k x threads) ⌝ }
-    ensures { λ o. ⌜ NextIs (now (book .entry)) (now (ws .entry)) x o ⌝ }
+    requires { ⌜ ((left : ℕ) × Memo (now book) (now ws) (x .programs) left) ⌝ }
+    ensures { λ o. ⌜ NextIs (now (book .entry)) (now (ws .exit)) x o ⌝ }
+    ensures { λ o. ⌜ MemoStays (now (book .entry)) (x .programs) (now (ws .entry)) (now (ws .exit)) ⌝ }
 {
     let a = x.atom / 4096 - 1;
     let f = words::field(book, a, 1);
@@ -233,11 +236,13 @@ fn after_next(book: &[u8], ws: &[u32], k: u32, x: Back) -> Candidate
 }
 
 // Passes over the candidates that clash at once with the atom: each is entered and fails at its first pair, two units.
-fn pass_over(book: &[u8], ws: &[u32], k: u32, x: Back, left: u32) -> Passed
+fn pass_over(book: &[u8], ws: &mut [u32], k: u32, x: Back, left: u32) -> Passed
     requires { ⌜ Readable (now book) ⌝ }
     requires { ⌜ Accepted (now book) × OwnIndexed (now book) (now ws) ⌝ }
     requires { ⌜ ((threads : List Thread) × ToClause (now book) (now ws) k x threads) ⌝ }
-    ensures { λ o. ⌜ ((threads : List Thread) → ToClause (now (book .entry)) (now (ws .entry)) k x threads → PassGives (now (book .entry)) (now (ws .entry)) k x left threads o) ⌝ }
+    requires { ⌜ Memo (now book) (now ws) (x .programs) left ⌝ }
+    ensures { λ o. ⌜ ((threads : List Thread) → ToClause (now (book .entry)) (now (ws .entry)) k x threads → PassGives (now (book .entry)) (now (ws .exit)) k x left threads o) ⌝ }
+    ensures { λ o. ⌜ MemoStays (now (book .entry)) (x .programs) (now (ws .entry)) (now (ws .exit)) ⌝ }
 {
     let w = first_word(book, ws, k, x);
     let mut y = x;
@@ -264,7 +269,9 @@ fn try_next(book: &[u8], ws: &mut [u32], k: u32, x: Back, next: Candidate, left:
     requires { ⌜ Accepted (now book) × NextIs (now book) (now ws) x next ⌝ }
     requires { ⌜ 0 < left ⌝ }
     requires { ⌜ ((threads : List Thread) × ToClause (now book) (now ws) k x threads) ⌝ }
+    requires { ⌜ Memo (now book) (now ws) (x .programs) left ⌝ }
     ensures { λ o. ⌜ Tries (now (book .entry)) (now (ws .entry)) (now (ws .exit)) k x left o ⌝ }
+    ensures { λ o. ⌜ MemoStepped (now (book .entry)) (now (ws .exit)) left o ⌝ }
 {
     let p = place(book, ws, x);
     let made = x.made + words::field(book, p.clause, 1);
@@ -321,7 +328,9 @@ fn try_all(book: &[u8], ws: &mut [u32], k: u32, x: Back, left: u32) -> Stepped
     requires { ⌜ Readable (now book) ⌝ }
     requires { ⌜ Accepted (now book) × OwnIndexed (now book) (now ws) ⌝ }
     requires { ⌜ ((threads : List Thread) × ToClause (now book) (now ws) k x threads) ⌝ }
+    requires { ⌜ Memo (now book) (now ws) (x .programs) left ⌝ }
     ensures { λ o. ⌜ Tries (now (book .entry)) (now (ws .entry)) (now (ws .exit)) k x left o ⌝ }
+    ensures { λ o. ⌜ MemoStepped (now (book .entry)) (now (ws .exit)) left o ⌝ }
 {
     match pass_over(book, ws, k, x, left) {
         Passed::Through(y, used) => Stepped::Onward(used, given_up(y, k)),
@@ -365,7 +374,9 @@ pub enum Reached {
 pub fn back(book: &[u8], ws: &mut [u32], r: Regs, left: u32) -> Reached
     requires { ⌜ r .solving ≡ false ⌝ }
     requires { ⌜ ((threads : List Thread) × Stands (now book) (now ws) r threads) ⌝ }
+    requires { ⌜ Memo (now book) (now ws) (r .programs) left ⌝ }
     ensures { λ o. ⌜ ReachContract (now (book .entry)) (now (ws .entry)) (now (ws .exit)) r left o ⌝ }
+    ensures { λ o. ⌜ MemoReached (now (book .entry)) (now (ws .exit)) left o ⌝ }
 {
     if r.alternatives == 0 {
         return Reached::Finished(Ending::Complete, 0);
@@ -383,7 +394,9 @@ pub fn go_on(book: &[u8], ws: &mut [u32], o: Reached, left: u32) -> Stepped
     requires { ⌜ Readable (now book) ⌝ }
     requires { ⌜ Accepted (now book) ⌝ }
     requires { ⌜ CanGoOn (now book) (now ws) left o ⌝ }
+    requires { ⌜ MemoReached (now book) (now ws) left o ⌝ }
     ensures { λ s. ⌜ GoesOn (now (book .entry)) (now (ws .entry)) (now (ws .exit)) left o s ⌝ }
+    ensures { λ s. ⌜ MemoStepped (now (book .entry)) (now (ws .exit)) left s ⌝ }
 {
     match o {
         Reached::Onward(n, r) => Stepped::Onward(n, r),

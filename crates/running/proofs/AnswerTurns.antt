@@ -19,6 +19,7 @@ use Rattle.machine.specs.Call.{filledBuffer}
 use Rattle.words.specs.Words.{storeOf}
 use Rattle.words.specs.Frame.{Keeps}
 use Rattle.branch.proofs.StateLaws.{sound-agree, waiting-agree}
+use Rattle.branch.proofs.MemoLaws.{memo-kept}
 use Rattle.steps.specs.declared.Regs.{Regs}
 use Rattle.steps.specs.Search.{runOut, runOn, topsOf, phase, Stands, Stands.going-back}
 use Rattle.steps.proofs.RunLaws.{at-thread}
@@ -154,6 +155,7 @@ module _ (book : List ℕ) (unknowns wanted size budget : ℕ) (ws ws′ out out
         stands = going-back refl (sound-agree A (H .sound)) (waiting-agree A (H .sound) (H .waiting));
         numbers = after-numbers ws ws′ (M .numbers) K;
         indexed = indexed-same book (ownRun book .first) (ownRun book .count) (own-ready book (T .accepted) .count-small) (keeps-narrow (omega arith) (omega arith) K) (M .indexed);
+        memo = memo-kept (keeps-narrow (omega arith) (omega (arith, H .sound .programs-most)) K) (keeps-narrow (omega arith) (omega arith) K) (omega arith) (omega arith) (M .memo);
         within = omega arith;
         fewer = lt-by (y .answers) wanted (z .answers) za (M .fewer) u;
         assumed-few = rw p (more-assumed y (r .supposed) (M .assumed-few));

@@ -18,15 +18,14 @@ use Rattle.steps.specs.declared.Stepped.{Stepped}
 use Rattle.returning.specs.declared.Reached.{Reached}
 use Rattle.returning.specs.declared.Reached.the-variants.{Finished}
 use Rattle.returning.specs.Reaching.{ReachGives.reach-end, ReachContract, GoesOn}
-use Rattle.returning.proofs.CandidateLaws.{none-spent}
-use Rattle.steps.specs.Search.{runOn, spentUnits, StepGives, StepGives.steps-on, StepGives.steps-end, StepContract}
-use Rattle.steps.proofs.RunLaws.{unit-none}
+use Rattle.steps.specs.Search.{runOn, spentUnits, unitsOf, StepGives, StepGives.steps-on, StepGives.steps-end, StepContract, MemoStepped}
+use Rattle.steps.proofs.RunLaws.{none-spent, units-most, unit-none}
 use Rattle.running.specs.declared.Turned.{Turned}
 use Rattle.running.specs.declared.Turned.the-variants.{Over}
 use Rattle.index.proofs.IndexLaws.{indexed-same}
 use Rattle.branch.specs.State.{ownRun}
 use Rattle.branch.proofs.FromScoped.{own-ready}
-use Rattle.running.specs.Turns.{answerDue, Taken, requestOf, Midway, TurnGives, TurnGives.turns-on, TurnGives.turns-over, unitsOf, turnBy}
+use Rattle.running.specs.Turns.{answerDue, Taken, requestOf, Midway, TurnGives, TurnGives.turns-on, TurnGives.turns-over, turnBy}
 use Rattle.running.proofs.HandLaws.{InHand, hand}
 
 -- WHETHER AN ANSWER IS DUE
@@ -63,19 +62,14 @@ module _ {book ws ws₁ ws₂ : List ℕ} {r : Regs} {left : ℕ} {o : Reached} 
   pub step-whole : ReachContract book ws ws₁ r left o → GoesOn book ws₁ ws₂ left o s → StepContract book ws ws₂ r left s
   step-whole R G threads Z = G ws r threads (R threads Z)
 
--- the units of a step are within what is left
-units-most : {book ws ws′ : List ℕ} {r : Regs} {left : ℕ} {threads : List Thread} {o : Stepped} → StepGives book ws ws′ r left threads o → unitsOf o ≤ left
-units-most (steps-on a b c d e) = a
-units-most (steps-end a b c) = a
-
 module _ (book : List ℕ) (unknowns wanted size budget : ℕ) (ws out : List ℕ) (r : Regs) (y : Tally) (end : ℕ) (whole : Result)
     (T : Taken book unknowns wanted size) (M : Midway book unknowns wanted size budget ws out r y end whole) where
   pub units-fit : (ws′ : List ℕ) (left : ℕ) (o : Stepped) → budget < 4294967296 → left ≡ budget - y .units → StepContract book ws ws′ r left o → y .units + unitsOf o < 4294967296
   units-fit ws′ left o b e S = omega (arith, M .within, units-most (S (M .threads) (M .stands)))
 
-  turned : (ws′ : List ℕ) (left : ℕ) (o : Stepped) → left ≡ budget - y .units → StepGives book ws ws′ r left (M .threads) o → TurnGives book unknowns wanted size budget ws′ out r y whole (turnBy y end o)
-  unfolding turnBy spentUnits
-  turned ws′ left o e (steps-on {r′ = r′} {used = used} {threads′ = ts} a p k S x) =
+  turned : (ws′ : List ℕ) (left : ℕ) (o : Stepped) → left ≡ budget - y .units → StepGives book ws ws′ r left (M .threads) o → MemoStepped book ws′ left o → TurnGives book unknowns wanted size budget ws′ out r y whole (turnBy y end o)
+  unfolding turnBy spentUnits MemoStepped
+  turned ws′ left o e (steps-on {r′ = r′} {used = used} {threads′ = ts} a p k S x) m =
       let h = M .within in
       let z : left - used ≡ budget - (y .units + used) = omega arith in
       turns-on {r′ = r′} {y′ = spentUnits used y} {end′ = end}
@@ -85,6 +79,7 @@ module _ (book : List ℕ) (unknowns wanted size budget : ℕ) (ws out : List �
         stands = S;
         numbers = λ v l. k .numbers .same (13568 + v) (omega arith) (omega arith) ∙ M .numbers v l;
         indexed = indexed-same book (ownRun book .first) (ownRun book .count) (own-ready book (T .accepted) .count-small) (k .index) (M .indexed);
+        memo = rw z at m;
         within = omega arith;
         fewer = M .fewer;
         assumed-few = M .assumed-few;
@@ -95,13 +90,13 @@ module _ (book : List ℕ) (unknowns wanted size budget : ℕ) (ws out : List �
             ∙ ap (λ (n : ℕ). runOn (requestOf unknowns wanted size) n (spentUnits used y) (M .lines) ts) z;
       })
       (omega arith)
-  turned ws′ left o e (steps-end {e = d} {used = used} a l x) =
+  turned ws′ left o e (steps-end {e = d} {used = used} a l x) m =
       let w : whole ≡ record { ending = d; tally = spentUnits used y; lines = M .lines } =
       M .same-run ∙ ap (λ (n : ℕ). runOn (requestOf unknowns wanted size) n y (M .lines) (M .threads)) (sym e) ∙ x (requestOf unknowns wanted size) y (M .lines) in
       turns-over (ap (λ t. t .ending) w) (ap (λ t. t .tally) w) (M .buffer ∙ ap (λ t. filledBuffer size (t .lines)) (sym w))
 
-  pub step-turns : (ws′ : List ℕ) (left : ℕ) (s : Stepped) (o : Turned) → left ≡ budget - y .units → StepContract book ws ws′ r left s → o ≡ turnBy y end s → TurnGives book unknowns wanted size budget ws′ out r y whole o
-  step-turns ws′ left s o e S q = rw q (turned ws′ left s e (S (M .threads) (M .stands)))
+  pub step-turns : (ws′ : List ℕ) (left : ℕ) (s : Stepped) (o : Turned) → left ≡ budget - y .units → StepContract book ws ws′ r left s → MemoStepped book ws′ left s → o ≡ turnBy y end s → TurnGives book unknowns wanted size budget ws′ out r y whole o
+  step-turns ws′ left s o e S m q = rw q (turned ws′ left s e (S (M .threads) (M .stands)) m)
 
   pub budget-spent : (left : ℕ) → r .solving ≡ true → left ≡ budget - y .units → left ≡ 0 → TurnGives book unknowns wanted size budget ws out r y whole (Over (Stopped Budget) y)
   budget-spent left s e z =

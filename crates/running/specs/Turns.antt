@@ -18,6 +18,7 @@ use Rattle.steps.specs.declared.Stepped.{Stepped}
 use Rattle.steps.specs.declared.Stepped.the-variants.{Onward, Finished}
 use Rattle.steps.specs.Search.{runOn, spentUnits, Stands, phase}
 use Rattle.branch.specs.Seeking.{OwnIndexed}
+use Rattle.branch.specs.Memo.{Memo}
 use Rattle.answers.specs.Numbers.{NoNumbers}
 use Rattle.running.specs.declared.Turned.{Turned}
 use Rattle.running.specs.declared.Turned.the-variants.{On, Over}
@@ -42,6 +43,7 @@ pub record Midway (book : List ℕ) (unknowns wanted size budget : ℕ) (ws out 
   pub stands : Stands book ws r threads
   pub numbers : NoNumbers ws
   pub indexed : OwnIndexed book ws
+  pub memo : Memo book ws (r .programs) (budget - y .units)
   pub within : y .units ≤ budget
   pub fewer : y .answers < wanted
   pub assumed-few : y .assumed ≤ y .answers
@@ -74,11 +76,6 @@ oneMore y supposed = record
 unfoldable pub leftBehind : Regs → Regs
 leftBehind r = record
     { made = r .made; trail = r .trail; cells = r .cells; programs = r .programs; alternatives = r .alternatives; cell = 0; taken = 0; supposed = false; solving = false }
-
--- the units of a step
-abbrev pub unitsOf : Stepped → ℕ
-unitsOf (Onward n r) = n
-unitsOf (Finished e n) = n
 
 -- a turn that is a step
 unfoldable pub turnBy : Tally → ℕ → Stepped → Turned

@@ -7,13 +7,14 @@ ghost use lib.ListN.{length, replicate};
 ghost use Rattle.book.specs.Decode.{questionOf};
 ghost use Rattle.machine.specs.Run.{Result, start as startOf};
 ghost use Rattle.machine.specs.Call.{noCounts, runOf, filledBuffer};
-ghost use Rattle.steps.specs.Search.{Stands, spentUnits};
+ghost use Rattle.steps.specs.Search.{Stands, spentUnits, unitsOf};
 ghost use Rattle.branch.specs.Seeking.{OwnIndexed};
+ghost use Rattle.branch.specs.Memo.{Memo};
 ghost use Rattle.answers.specs.Numbers.{NoNumbers};
 ghost use Rattle.book.proofs.Accepted.{Accepted};
 ghost use Rattle.machine.specs.Machine.{Thread};
-ghost use Rattle.returning.specs.Reaching.{ReachContract};
-ghost use Rattle.running.specs.Turns.{answerDue, Taken, Midway, TurnGives, oneMore, leftBehind, unitsOf, turnBy};
+ghost use Rattle.returning.specs.Reaching.{ReachContract, MemoReached};
+ghost use Rattle.running.specs.Turns.{answerDue, Taken, Midway, TurnGives, oneMore, leftBehind, turnBy};
 use answers::Answered;
 use machine::Ending;
 use machine::Limit;
@@ -140,7 +141,9 @@ fn reach(book: &[u8], ws: &mut [u32], r: Regs, left: u32) -> Reached
     requires { ⌜ Accepted (now book) × OwnIndexed (now book) (now ws) ⌝ }
     requires { ⌜ answerDue r ≡ false ⌝ }
     requires { ⌜ ((threads : List Thread) × Stands (now book) (now ws) r threads) ⌝ }
+    requires { ⌜ Memo (now book) (now ws) (r .programs) left ⌝ }
     ensures { λ o. ⌜ ReachContract (now (book .entry)) (now (ws .entry)) (now (ws .exit)) r left o ⌝ }
+    ensures { λ o. ⌜ MemoReached (now (book .entry)) (now (ws .exit)) left o ⌝ }
 {
     if !r.solving {
         return returning::back(book, ws, r, left);
@@ -194,7 +197,7 @@ pub fn run(
 ) -> Ran
     requires { ⌜ Taken (now book) unknowns wanted (length (now out)) ⌝ }
     requires { ⌜ Stands (now book) (now ws) start (startOf (questionOf (now book)) .thread ∷ []) ⌝ }
-    requires { ⌜ NoNumbers (now ws) × OwnIndexed (now book) (now ws) ⌝ }
+    requires { ⌜ NoNumbers (now ws) × OwnIndexed (now book) (now ws) × Memo (now book) (now ws) (start .programs) budget ⌝ }
     requires { ⌜ tally ≡ noCounts ⌝ }
     requires { ⌜ now out ≡ replicate (length (now out)) 0 ⌝ }
     ensures { λ x. ⌜ (x .ending ≡ runOf (now (book .entry)) budget wanted (length (now (out .entry))) .ending)

@@ -24,7 +24,9 @@ use Rattle.index.specs.Runs.{ClauseRun}
 use Rattle.index.specs.Index.{IndexedFrom}
 use Rattle.index.proofs.IndexLaws.{made-all, indexed-same}
 use Rattle.branch.specs.Seeking.{OwnIndexed}
+use Rattle.branch.specs.Memo.{Memo}
 use Rattle.branch.proofs.FromScoped.{own-ready}
+use Rattle.branch.proofs.MemoLaws.{memo-none}
 use Rattle.words.specs.Words.{termWord, entryW, storeOf}
 use Rattle.words.specs.Good.{Slots}
 use Rattle.words.specs.Frame.{Keeps}
@@ -80,6 +82,11 @@ module _ (book : List ℕ) (A : Accepted book) (ws : List ℕ) (size : length ws
 
   pub start-numbers : NoNumbers (startWords book ws)
   start-numbers v l = above .same (13568 + v) (omega arith) (omega arith) ∙ numbers v l
+
+  -- nor is the memo: nothing is remembered
+  pub start-memo : {budget : ℕ} → ((k : ℕ) → k < 240 → getD ws (13328 + k) 0 ≡ 0) → Memo book (startWords book ws) (startRegs book .programs) budget
+  unfolding startWords startRegs
+  start-memo Z = memo-none (λ e b. put-outside 13328 13568 1 (termWord goal 0) 0 0 ws (inl (omega arith)) .same (13328 + 3 * e) (omega arith) (omega arith) ∙ Z (3 * e) (omega arith))
 
   -- the index is not touched
   pub start-indexed : OwnIndexed book (startWords book ws)
@@ -178,10 +185,13 @@ module _ (book : List ℕ) (wanted budget : ℕ) (ws ws₁ ws₂ out : List ℕ)
   numbers-here : NoNumbers ws₁
   numbers-here v l = I .above .same (13568 + v) (omega (arith, own-ready book (R .accepted) .count-small)) (omega arith) ∙ R .numbers v l
 
+  memo-here : (k : ℕ) → k < 240 → getD ws₁ (13328 + k) 0 ≡ 0
+  memo-here k l = I .above .same (13328 + k) (omega (arith, own-ready book (R .accepted) .count-small)) (omega arith) ∙ R .memo k l
+
   indexed-here : OwnIndexed book ws₁
   indexed-here = made-all book (ownRun book .first) (ownRun book .count) ws ws₁ I
 
-  pub run-ready : Taken book (r .made) wanted (length out) × (Stands book ws₂ r (start (questionOf book) .thread ∷ []) × ((NoNumbers ws₂ × OwnIndexed book ws₂) × ((so ≡ noCounts) × (out ≡ replicate (length out) 0))))
+  pub run-ready : Taken book (r .made) wanted (length out) × (Stands book ws₂ r (start (questionOf book) .thread ∷ []) × ((NoNumbers ws₂ × OwnIndexed book ws₂ × Memo book ws₂ (r .programs) budget) × ((so ≡ noCounts) × (out ≡ replicate (length out) 0))))
   run-ready = (
     record {
       accepted = R .accepted;
@@ -193,7 +203,11 @@ module _ (book : List ℕ) (wanted budget : ℕ) (ws ws₁ ws₂ out : List ℕ)
     (
       rw (w, e) (stands-start book (R .accepted) ws₁ size-here open-here numbers-here indexed-here),
       (
-        (rw w (start-numbers book (R .accepted) ws₁ size-here open-here numbers-here indexed-here), rw w (start-indexed book (R .accepted) ws₁ size-here open-here numbers-here indexed-here)),
+        (
+          rw w (start-numbers book (R .accepted) ws₁ size-here open-here numbers-here indexed-here),
+          rw w (start-indexed book (R .accepted) ws₁ size-here open-here numbers-here indexed-here),
+          rw (w, e) (start-memo book (R .accepted) ws₁ size-here open-here numbers-here indexed-here memo-here),
+        ),
         (R .fresh, R .blank),
       ),
     ),

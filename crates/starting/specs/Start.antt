@@ -1,7 +1,7 @@
 -- The start of a run in the workspace: one goal cell, with the question's goal and its own clauses for a program; every unknown open.
 use mathlib.Core.Bool.{true, false}
 use mathlib.Core.List.{List}
-use Prim.Native.Nat.{ℕ, _≤_, _<_}
+use Prim.Native.Nat.{ℕ, _+_, _≤_, _<_}
 use mathlib.Core.Path.{_≡_}
 use lib.ListN.{length, getD, replicate}
 use Rattle.book.proofs.Accepted.{Accepted}
@@ -21,13 +21,15 @@ unfoldable pub startRegs : List ℕ → Regs
 startRegs book = record
     { made = field book (lastRecord book) 4; trail = 0; cells = 2; programs = 1; alternatives = 0; cell = 1; taken = 0; supposed = false; solving = true }
 
--- What the whole run is ready for: an accepted book; a workspace whose first slots, for the unknowns, and whose words for an answer's variables are 0;
+-- What the whole run is ready for: an accepted book; a workspace whose first slots, for the unknowns, and whose words for the memo and for an answer's variables are 0, the others anything;
 -- an answer buffer that is all zero; and nothing counted yet.
 pub record Ready (book ws out : List ℕ) (wanted budget : ℕ) (so : Tally) : Type 0 where
   pub accepted : Accepted book
   pub size : length ws ≡ 16384
   pub open-slots : (k : ℕ) → k < 64 → getD ws k 0 ≡ 0
   pub numbers : NoNumbers ws
+  -- the words of the memo are 0
+  pub memo : (k : ℕ) → k < 240 → getD ws (13328 + k) 0 ≡ 0
   pub room : length out ≤ 65536
   pub wanted-some : 1 ≤ wanted
   pub wanted-most : wanted ≤ 64

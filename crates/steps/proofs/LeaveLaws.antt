@@ -10,6 +10,7 @@ use Rattle.words.proofs.StackLaws.{keeps-refl, keeps-trans, keeps-narrow}
 use Rattle.branch.specs.declared.Back.{Back}
 use Rattle.branch.specs.Alternatives.{keepWords}
 use Rattle.branch.specs.State.{putCell}
+use Rattle.branch.specs.Memo.{MemoOnly}
 use Rattle.branch.proofs.TakeLaws.{put-outside}
 use Rattle.branch.proofs.KeepLaws.{kept-outside}
 use Rattle.steps.specs.Search.{Leaves}
@@ -23,6 +24,10 @@ leaves-trans a b = record { index = keeps-trans (a .index) (b .index); numbers =
 -- what keeps the words from 4096 on up to the pairs; what entering and unifying leave alone
 pub leaves-between : {lo : ℕ} {ws ws′ : List ℕ} → lo ≤ 4096 → Keeps lo 15616 ws ws′ → Leaves ws ws′
 leaves-between h k = record { index = keeps-narrow h (omega arith) k; numbers = keeps-narrow (omega arith) (omega arith) k }
+
+-- what differs in the memo only
+pub leaves-only : {ws ws′ : List ℕ} → MemoOnly ws ws′ → Leaves ws ws′
+leaves-only O = record { index = keeps-narrow (omega arith) (omega arith) (O .below); numbers = keeps-narrow (omega arith) (omega arith) (O .above) }
 
 -- a goal cell, an alternative
 pub leaves-cell : (c w p q : ℕ) (ws : List ℕ) → c < 1026 → Leaves ws (putCell c w p q ws)

@@ -3,6 +3,7 @@ use mathlib.Core.Path.{_≡_, refl, sym, _∙_, ap}
 use mathlib.Core.List.{List, [], _∷_, _++_}
 use Prim.Native.Nat.{ℕ, suc, _+_, _-_, _≤_, _<_}
 use native.Mathlib.Omega.{arith}
+use native.Mathlib.Nat.{add-zero}
 use Rattle.machine.specs.declared.Limit.{Limit}
 use Rattle.machine.specs.declared.Limit.the-variants.{Budget}
 use Rattle.machine.specs.declared.Ending.the-variants.{Stopped as StoppedEnding}
@@ -14,10 +15,21 @@ use Rattle.unifier.specs.declared.How.{How}
 use Rattle.unifier.specs.declared.How.the-variants.{Done, Failed, Stopped}
 use Rattle.unifier.specs.Moves.{Moves, Went, Went.done, Went.fails, Went.full, Went.spent}
 use Rattle.unifier.proofs.MoveLaws.{run-moves, unitsMore}
-use Rattle.steps.specs.Search.{runOut, runOn, spentUnits}
+use Rattle.steps.specs.declared.Regs.{Regs}
+use Rattle.steps.specs.declared.Stepped.{Stepped}
+use Rattle.steps.specs.Search.{runOut, runOn, spentUnits, unitsOf, StepGives, StepGives.steps-on, StepGives.steps-end}
 
 abbrev pub at-thread : Thread → List Thread → Tally → List Line → State
 at-thread t ts y ls = record { thread = t; waiting = ts; tally = y; lines = ls }
+
+pub none-spent : (y : Tally) → y ≡ spentUnits 0 y
+unfolding spentUnits
+none-spent y = rw (add-zero (y .units)) refl
+
+-- the units of a step are within what is left
+pub units-most : {book ws ws′ : List ℕ} {r : Regs} {left : ℕ} {threads : List Thread} {s : Stepped} → StepGives book ws ws′ r left threads s → unitsOf s ≤ left
+units-most (steps-on a b c d e) = a
+units-most (steps-end a b c) = a
 
 module _ (q : Request) where
   pub run-step : (n : ℕ) (s : State) → run q (suc n) s ≡ runOut q n (step q s)

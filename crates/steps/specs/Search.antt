@@ -13,6 +13,7 @@ use Rattle.machine.specs.Answers.{Line}
 use Rattle.machine.specs.Run.{Request, State, Outgoing, next, ended, goOn, Result, run}
 use Rattle.words.specs.Frame.{Keeps}
 use Rattle.branch.specs.State.{Tops, IsBranch, Sound, Waiting}
+use Rattle.branch.specs.Memo.{Memo}
 use Rattle.steps.specs.declared.Regs.{Regs}
 use Rattle.steps.specs.declared.Stepped.{Stepped}
 use Rattle.steps.specs.declared.Stepped.the-variants.{Onward, Finished}
@@ -58,6 +59,16 @@ pub data StepGives (book ws ws′ : List ℕ) (r : Regs) (left : ℕ) (threads :
   steps-end : {e : Ending} {used : ℕ} → used ≤ left → length ws′ ≡ length ws
       → ((q : Request) (y : Tally) (ls : List Line) → runOn q left y ls threads ≡ record { ending = e; tally = spentUnits used y; lines = ls })
       → StepGives book ws ws′ r left threads (Finished e used)
+
+-- the units of a step
+abbrev pub unitsOf : Stepped → ℕ
+unitsOf (Onward n r) = n
+unitsOf (Finished e n) = n
+
+-- the memo after a step that had `left` units
+unfoldable pub MemoStepped : List ℕ → List ℕ → ℕ → Stepped → Type 0
+MemoStepped book ws left (Onward used r) = Memo book ws (r .programs) (left - used)
+MemoStepped book ws left (Finished e used) = Unit {0}
 
 -- the contract of a step: whatever threads the registers and the workspace stand for
 abbrev pub StepContract : List ℕ → List ℕ → List ℕ → Regs → ℕ → Stepped → Type 0

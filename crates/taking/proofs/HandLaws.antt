@@ -19,6 +19,7 @@ use Rattle.words.proofs.FrameLaws.{fits-most}
 use Rattle.branch.specs.declared.Back.{Back}
 use Rattle.branch.specs.State.{restOf, runOfSuppose, Tops, GoalHere, IsRest.put-rest, IsProgram, IsBranch, Sound, Alternative.other-goal, Waiting, Agree, putCell, flag}
 use Rattle.branch.specs.Alternatives.{keepWords}
+use Rattle.branch.specs.Memo.{markOf}
 use Rattle.branch.proofs.StateLaws.{rest-agree, rest-more, goals-more, goals-push, branch-agree, sound-agree, waiting-agree, waiting-raised, waiting-push}
 use Rattle.branch.proofs.TakeLaws.{cell-agree, cell-word}
 use Rattle.branch.proofs.KeepLaws.{keep-agree, kept-0, kept-1, kept-2, kept-3, kept-4}
@@ -109,32 +110,45 @@ module _ {book ws : List ℕ} {t : Tops} {q n : ℕ} {s : Bool} {y : Branch} {th
         waiting = R .waiting;
       }
 
--- PUTTING A PROGRAM leaves alone what lies outside its two words
-put-program-outside : (lo hi p w q : ℕ) (ws : List ℕ) → (8200 + 2 * p + 1 < lo) ⊎ (hi ≤ 8200 + 2 * p) → Keeps lo hi ws (putProgram p w q ws)
+-- PUTTING A PROGRAM leaves alone what lies outside its three words
+pub put-program-outside : (lo hi p w q mark : ℕ) (ws : List ℕ) → (8200 + 3 * p + 2 < lo) ⊎ (hi ≤ 8200 + 3 * p) → Keeps lo hi ws (putProgram p w q mark ws)
 unfolding putProgram
-put-program-outside lo hi p w q ws (inl h) = keeps-trans (keeps-set lo hi ws (8200 + 2 * p) w (inl (omega arith))) (keeps-set lo hi (set ws (8200 + 2 * p) w) (8200 + 2 * p + 1) q (inl h))
-put-program-outside lo hi p w q ws (inr h) = keeps-trans (keeps-set lo hi ws (8200 + 2 * p) w (inr h)) (keeps-set lo hi (set ws (8200 + 2 * p) w) (8200 + 2 * p + 1) q (inr (omega arith)))
+put-program-outside lo hi p w q mark ws (inl h) =
+    keeps-trans (keeps-set lo hi ws (8200 + 3 * p) w (inl (omega arith)))
+    (keeps-trans (keeps-set lo hi (set ws (8200 + 3 * p) w) (8200 + 3 * p + 1) q (inl (omega arith)))
+    (keeps-set lo hi (set (set ws (8200 + 3 * p) w) (8200 + 3 * p + 1) q) (8200 + 3 * p + 2) mark (inl h)))
+put-program-outside lo hi p w q mark ws (inr h) =
+    keeps-trans (keeps-set lo hi ws (8200 + 3 * p) w (inr h))
+    (keeps-trans (keeps-set lo hi (set ws (8200 + 3 * p) w) (8200 + 3 * p + 1) q (inr (omega arith)))
+    (keeps-set lo hi (set (set ws (8200 + 3 * p) w) (8200 + 3 * p + 1) q) (8200 + 3 * p + 2) mark (inr (omega arith))))
 
-pub leaves-program : (p w q : ℕ) (ws : List ℕ) → p < 514 → Leaves ws (putProgram p w q ws)
-leaves-program p w q ws h = record { index = put-program-outside 4096 6144 p w q ws (inr (omega arith)); numbers = put-program-outside 13568 15616 p w q ws (inl (omega arith)) }
+pub leaves-program : (p w q mark : ℕ) (ws : List ℕ) → p < 514 → Leaves ws (putProgram p w q mark ws)
+leaves-program p w q mark ws h = record { index = put-program-outside 4096 6144 p w q mark ws (inr (omega arith)); numbers = put-program-outside 13568 15616 p w q mark ws (inl (omega arith)) }
+
+-- and its third word is its mark
+pub program-mark : (p w q mark : ℕ) (ws : List ℕ) → 8200 + 3 * p + 2 < length ws → markOf (putProgram p w q mark ws) p ≡ mark
+unfolding putProgram
+program-mark p w q mark ws h =
+    let first = set ws (8200 + 3 * p) w in
+    getD-set-same (set first (8200 + 3 * p + 1) q) (8200 + 3 * p + 2) mark 0 (rw (length-set first (8200 + 3 * p + 1) q, length-set ws (8200 + 3 * p) w) h)
 
 -- PUTTING A PROGRAM: the clauses of suppose goal g before program p
-module _ {book ws : List ℕ} {t : Tops} {q n : ℕ} {s : Bool} {y : Branch} {threads : List Thread} (H : Hand book ws t q n s y threads) (g b p : ℕ) (program : List Force)
+module _ {book ws : List ℕ} {t : Tops} {q n : ℕ} {s : Bool} {y : Branch} {threads : List Thread} (H : Hand book ws t q n s y threads) (g b p mark : ℕ) (program : List Force)
     (k : kindAt book g ≡ supposeKind) (G : GoalHere book (t .made) g b) (base : b < 4096) (P : IsProgram book ws (t .made) (t .programs) p program) (below : p < t .programs)
     (few : t .programs + 1 ≤ n + 1) (most : n ≤ 512) where
   abbrev pub program-put : List ℕ
-  program-put = putProgram (t .programs) (termWord g b) p ws
+  program-put = putProgram (t .programs) (termWord g b) p mark ws
 
-  program-outside : (lo hi : ℕ) → (8200 + 2 * t .programs + 1 < lo) ⊎ (hi ≤ 8200 + 2 * t .programs) → Keeps lo hi ws program-put
-  program-outside lo hi h = put-program-outside lo hi (t .programs) (termWord g b) p ws h
+  program-outside : (lo hi : ℕ) → (8200 + 3 * t .programs + 2 < lo) ⊎ (hi ≤ 8200 + 3 * t .programs) → Keeps lo hi ws program-put
+  program-outside lo hi h = put-program-outside lo hi (t .programs) (termWord g b) p mark ws h
 
   program-agree : Agree t ws program-put
   program-agree = record {
     slots = program-outside 0 (t .made) (inr (omega (arith, H .sound .slots .room)));
     trail = program-outside 2048 (2048 + t .trail) (inr (omega (arith, trail-room H)));
     cells = program-outside 6144 (6144 + 2 * t .cells) (inr (omega (arith, H .sound .cells-most)));
-    programs = program-outside 8200 (8200 + 2 * t .programs) (inr (omega arith));
-    alternatives = program-outside 9232 (9232 + 8 * t .alternatives) (inl (omega arith));
+    programs = program-outside 8200 (8200 + 3 * t .programs) (inr (omega arith));
+    alternatives = program-outside 9744 (9744 + 7 * t .alternatives) (inl (omega arith));
   }
 
   pub program-hand : Hand book program-put (raised t (t .cells) (t .programs + 1)) q n s y threads
@@ -143,11 +157,12 @@ module _ {book ws : List ℕ} {t : Tops} {q n : ℕ} {s : Bool} {y : Branch} {th
   pub program-is : IsProgram book program-put (t .made) (t .programs + 1) (t .programs) (added (clausesOf book (field book g 1) (field book g 2)) b program)
   unfolding putProgram
   program-is =
-      let room : 8200 + 2 * t .programs + 1 < length ws = omega (arith, H .sound .slots .size) in
-      let first = set ws (8200 + 2 * t .programs) (termWord g b) in
+      let room : 8200 + 3 * t .programs + 1 < length ws = omega (arith, H .sound .slots .size) in
+      let first = set ws (8200 + 3 * t .programs) (termWord g b) in
+      let second = set first (8200 + 3 * t .programs + 1) p in
       let R : IsProgram book program-put (t .made) (t .programs + 1) (t .programs) (restOf book (runOfSuppose book g b) 0 program) = put-rest {p = t .programs} {i = 0} {q = p} {s = g} {b = b} {program = program} (H .sound .programs-some) (omega arith)
-      (getD-set-other first (8200 + 2 * t .programs + 1) (8200 + 2 * t .programs) p 0 (λ e. omega arith) ∙ getD-set-same ws (8200 + 2 * t .programs) (termWord g b) 0 (omega arith))
-      (getD-set-same first (8200 + 2 * t .programs + 1) p 0 (rw (length-set ws (8200 + 2 * t .programs) (termWord g b)) room)) below k G base (omega arith)
+      (getD-set-other second (8200 + 3 * t .programs + 2) (8200 + 3 * t .programs) mark 0 (λ e. omega arith) ∙ getD-set-other first (8200 + 3 * t .programs + 1) (8200 + 3 * t .programs) p 0 (λ e. omega arith) ∙ getD-set-same ws (8200 + 3 * t .programs) (termWord g b) 0 (omega arith))
+      (getD-set-other second (8200 + 3 * t .programs + 2) (8200 + 3 * t .programs + 1) mark 0 (λ e. omega arith) ∙ getD-set-same first (8200 + 3 * t .programs + 1) p 0 (rw (length-set ws (8200 + 3 * t .programs) (termWord g b)) room)) below k G base (omega arith)
       (rest-more (omega arith) (omega arith) (rest-agree program-agree (omega arith) P)) in
       rw (add-zero (field book g 1), sub-zero (field book g 2)) at R
 

@@ -3,15 +3,15 @@ use mathlib.Core.Path.{_≡_, refl, sym, _∙_, ap}
 use mathlib.Core.List.{List, _∷_}
 use Prim.Native.Nat.{ℕ, _+_, _-_, _*_, _≤_, _<_}
 use native.Mathlib.Omega.{arith}
-use lib.ListN.{length, take, length-map, length-take}
+use lib.ListN.{length}
 use Rattle.book.specs.Decode.{goalOf}
 use Rattle.book.proofs.Accepted.{Accepted}
 use Rattle.machine.specs.declared.Tally.{Tally}
 use Rattle.machine.specs.Answers.{Line}
 use Rattle.machine.specs.Run.{Request}
 use Rattle.machine.specs.Machine.{Thread, Todo, Force, solving, Branch, todo}
-use Rattle.words.specs.Words.{entryW, storeOf}
 use Rattle.branch.specs.State.{IsProgram}
+use Rattle.branch.proofs.StateLaws.{store-made}
 use Rattle.branch.proofs.SeekChain.{own-at}
 use Rattle.branch.proofs.TakeLaws.{CellAt}
 use Rattle.following.specs.declared.Followed.{Followed}
@@ -30,8 +30,7 @@ module _ (book : List ℕ) (A : Accepted book) (ws : List ℕ) (r : Regs) (left 
     (H : Hand book ws (topsOf r) (r .cell) (r .taken) (r .supposed) x threads) (X : CellAt book ws (r .made) (r .cells) (r .programs) (r .cell) (x .goals))
     (p : Followed) (some : 0 < p .rules) (P : PlainAhead book r (cellHere book (A .formed) ws r left x threads h H X) left p) where
   made-now : length (x .store) ≡ r .made
-  unfolding storeOf
-  made-now = rw (H .branch .store) (length-map (take (r .made) ws) (entryW book) ∙ length-take (r .made) ws ∙ omega (arith, H .sound .slots .size, H .sound .slots .room))
+  made-now = store-made (H .sound) (H .branch)
 
   program-own : X .program ≡ ownProgram book
   program-own = own-at (P .own) (X .program-is) .0

@@ -132,15 +132,15 @@ module _ (book : List ℕ) (F : Formed book) (ws : List ℕ) (r : Regs) (left : 
         (leaves-trans (leaves-cell (r .cells) _ (X .p) (X .q) ws (omega (arith, B .cells-few))) (leaves-trans (leaves-kept _ (r .alternatives) _ (omega arith) (right .sound .slots .size)) (leaves-cell (r .cells + 1) _ (X .p) (X .q) _ (omega (arith, B .cells-few)))))
         (goal-hand kept (field book (X .g) 1) (X .b) (X .p) (X .program) L (X .base) (rest-agree A (omega arith) P) (X .program-below) (omega (arith, falls)) (omega (arith, B .cells-few)) (omega arith)))
 
-    pub suppose-steps : (ws′ : List ℕ) → kindAt book (X .g) ≡ supposeKind → ws′ ≡ supposeWords book r cellHere ws → StepGives book ws ws′ r left (solving x ∷ threads) (Onward 1 (supposeRegs r))
+    pub suppose-steps : (ws′ : List ℕ) → kindAt book (X .g) ≡ supposeKind → ws′ ≡ supposeWords book r cellHere left ws → StepGives book ws ws′ r left (solving x ∷ threads) (Onward 1 (supposeRegs r))
     unfolding supposeWords supposeRegs taking inHand
     suppose-steps ws′ k e =
         let B = H .branch in
         let few : r .programs + 1 ≤ r .taken + 1 + 1 = omega (arith, B .programs-few) in
         let G = supposed-goal book F (r .made) (X .g) (X .b) (X .here) k in
         let T = rest-hand true (tookSuppose x (X .gs)) refl refl refl refl in
-        let put = program-hand T (X .g) (X .b) (X .p) (X .program) k (X .here) (X .base) (X .program-is) (X .program-below) few (omega arith) in
-        let P = program-is T (X .g) (X .b) (X .p) (X .program) k (X .here) (X .base) (X .program-is) (X .program-below) few (omega arith) in
+        let put = program-hand T (X .g) (X .b) (X .p) left (X .program) k (X .here) (X .base) (X .program-is) (X .program-below) few (omega arith) in
+        let P = program-is T (X .g) (X .b) (X .p) left (X .program) k (X .here) (X .base) (X .program-is) (X .program-below) few (omega arith) in
         rw e (onward _ (r .cells) (r .programs + 1) (r .alternatives) true _ [] (took-goal _ (goal-suppose book F (X .g) (X .here .inside) k))
-        (leaves-trans (leaves-program (r .programs) _ (X .p) ws (omega (arith, B .programs-few))) (leaves-cell (r .cells) _ (r .programs) (X .q) _ (omega (arith, B .cells-few))))
+        (leaves-trans (leaves-program (r .programs) _ (X .p) left ws (omega (arith, B .programs-few))) (leaves-cell (r .cells) _ (r .programs) (X .q) _ (omega (arith, B .cells-few))))
         (goal-hand put (field book (X .g) 3) (X .b) (r .programs) _ G (X .base) P (omega arith) falls (omega (arith, B .cells-few)) (omega arith)))

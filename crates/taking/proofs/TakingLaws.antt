@@ -18,6 +18,7 @@ use Rattle.words.specs.Readable.{Readable}
 use Rattle.words.proofs.PackLaws.{rec-pack, base-pack, pack-large}
 use Rattle.words.proofs.ReadLaws.{in-book}
 use Rattle.branch.specs.Seeking.{Standing}
+use Rattle.branch.specs.Memo.{MemoOnly}
 use Rattle.branch.proofs.TakeLaws.{CellAt, cell-at}
 use Rattle.following.specs.declared.Followed.{Followed}
 use Rattle.steps.specs.declared.Regs.{Regs}
@@ -31,6 +32,7 @@ use Rattle.taking.proofs.HandLaws.{Hand, trail-room}
 use Rattle.taking.proofs.TakeRuns.{goals-stop, and-steps, or-steps, suppose-steps}
 use Rattle.taking.proofs.AtomRuns.{atom-steps}
 use Rattle.taking.proofs.PlainSteps.{plain-steps}
+use Rattle.taking.proofs.MemoFrames.{reach-only}
 
 -- THE KIND OF A GOAL, by its number
 module _ (book : List ℕ) (g : ℕ) where
@@ -155,10 +157,11 @@ module _ (book : List ℕ) (F : Formed book) (ws : List ℕ) (r : Regs) (left : 
       kind-here : kind ≡ field book (face .cell .g) 0
       kind-here = ke ∙ ap (λ (z : Cell). field book (z .goal) 0) read-as
 
-    pub takes-atom : kind < 5 → (o : Reached) → AtomTaken book ws r x o → ReachContract book ws ws r left o
-    takes-atom k o A threads Z =
+    -- the search for the first candidate writes in the memo only
+    pub takes-atom : kind < 5 → (o : Reached) → AtomTaken book ws r x o → (ws′ : List ℕ) → MemoOnly ws ws′ → ReachContract book ws ws′ r left o
+    takes-atom k o A ws′ O threads Z =
         let T = face threads Z in
-        rw (T .is) (atom-steps book F ws r left (T .branch) (T .waiting) h (T .hand) (T .cell) l (atom-kind book (T .cell .g) (T .cell .here .kind) (rw (kind-here threads Z) at k)) o (rw (read-as threads Z) at A))
+        rw (T .is) (reach-only O (atom-steps book F ws r left (T .branch) (T .waiting) h (T .hand) (T .cell) l (atom-kind book (T .cell .g) (T .cell .here .kind) (rw (kind-here threads Z) at k)) o (rw (read-as threads Z) at A)))
 
     module _ (ws′ : List ℕ) (y : Regs) where
       pub takes-and : kind ≡ 5 → ws′ ≡ andWords book r x ws → y ≡ andRegs r → ReachContract book ws ws′ r left (Onward 1 y)
@@ -171,7 +174,7 @@ module _ (book : List ℕ) (F : Formed book) (ws : List ℕ) (r : Regs) (left : 
           let T = face threads Z in
           rw (T .is, d) (reach-on (or-steps book F ws r left (T .branch) (T .waiting) h (T .hand) (T .cell) l ws′ (or-kind book (T .cell .g) (sym (kind-here threads Z) ∙ k)) (rw (read-as threads Z) at e)))
 
-      pub takes-suppose : 5 ≤ kind → kind ≢ 5 → kind ≢ 6 → ws′ ≡ supposeWords book r x ws → y ≡ supposeRegs r → ReachContract book ws ws′ r left (Onward 1 y)
+      pub takes-suppose : 5 ≤ kind → kind ≢ 5 → kind ≢ 6 → ws′ ≡ supposeWords book r x left ws → y ≡ supposeRegs r → ReachContract book ws ws′ r left (Onward 1 y)
       takes-suppose a b c e d threads Z =
           let T = face threads Z in
           let z = kind-here threads Z in

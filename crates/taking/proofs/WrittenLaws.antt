@@ -38,8 +38,8 @@ module _ (book : List ℕ) (r : Regs) (x : Cell) (ws ws₁ : List ℕ) where
   unfolding orWords orKept termWord
   or-written ws₂ ws₃ left right s a b e c d f = rw (f, d, c, a, b, e) refl
 
-  pub suppose-written : (ws₂ : List ℕ) (goal : ℕ) → goal ≡ field book (x .goal) 3
-      → ws₁ ≡ putProgram (r .programs) (4096 * (x .goal + 1) + x .base) (x .program) ws
-      → ws₂ ≡ putCell (r .cells) (4096 * (goal + 1) + x .base) (r .programs) (x .next) ws₁ → ws₂ ≡ supposeWords book r x ws
+  pub suppose-written : (ws₂ : List ℕ) (goal left : ℕ) → goal ≡ field book (x .goal) 3
+      → ws₁ ≡ putProgram (r .programs) (4096 * (x .goal + 1) + x .base) (x .program) left ws
+      → ws₂ ≡ putCell (r .cells) (4096 * (goal + 1) + x .base) (r .programs) (x .next) ws₁ → ws₂ ≡ supposeWords book r x left ws
   unfolding supposeWords termWord
-  suppose-written ws₂ goal a b c = rw (c, b, a) refl
+  suppose-written ws₂ goal left a b c = rw (c, b, a) refl

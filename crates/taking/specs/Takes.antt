@@ -88,13 +88,13 @@ orWords book r x ws =
 unfoldable pub orRegs : Regs → Regs
 orRegs r = inHand r (r .cells + 1) (r .programs) (r .alternatives + 1) (r .supposed)
 
--- Suppose: its goal, with the supposed clauses in written order put before the present program.
-unfoldable pub putProgram : ℕ → ℕ → ℕ → List ℕ → List ℕ
-putProgram p w q ws = set (set ws (8200 + 2 * p) w) (8200 + 2 * p + 1) q
+-- Suppose: its goal, with the supposed clauses in written order put before the present program. The new program's mark is the units that are left.
+unfoldable pub putProgram : ℕ → ℕ → ℕ → ℕ → List ℕ → List ℕ
+putProgram p w q mark ws = set (set (set ws (8200 + 3 * p) w) (8200 + 3 * p + 1) q) (8200 + 3 * p + 2) mark
 
-unfoldable pub supposeWords : List ℕ → Regs → Cell → List ℕ → List ℕ
-supposeWords book r x ws =
-    putCell (r .cells) (termWord (field book (x .goal) 3) (x .base)) (r .programs) (x .next) (putProgram (r .programs) (termWord (x .goal) (x .base)) (x .program) ws)
+unfoldable pub supposeWords : List ℕ → Regs → Cell → ℕ → List ℕ → List ℕ
+supposeWords book r x left ws =
+    putCell (r .cells) (termWord (field book (x .goal) 3) (x .base)) (r .programs) (x .next) (putProgram (r .programs) (termWord (x .goal) (x .base)) (x .program) left ws)
 
 unfoldable pub supposeRegs : Regs → Regs
 supposeRegs r = inHand r (r .cells) (r .programs + 1) (r .alternatives) true

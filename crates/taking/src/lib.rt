@@ -1,17 +1,18 @@
 // Taking a goal: one unit of the run; or, where plain rules lead on from it, two units for each of them.
 ghost use mathlib.Core.Path.{_≡_};
 ghost use mathlib.Core.Bool.{true, false};
-ghost use Prim.Native.Nat.{_+_, _-_, _*_, _≤_, _<_};
+ghost use Prim.Native.Nat.{ℕ, _+_, _-_, _*_, _≤_, _<_};
 ghost use lib.ListN.{length, getD};
 ghost use Rattle.words.specs.Readable.{Readable};
 ghost use Rattle.book.specs.Records.{records};
 ghost use Rattle.book.proofs.Accepted.{Accepted, Formed};
 ghost use Rattle.branch.specs.State.{flag};
 ghost use Rattle.branch.specs.Seeking.{OwnReady, OwnIndexed, Standing};
+ghost use Rattle.branch.specs.Memo.{Memo, MemoStays};
 ghost use Rattle.machine.specs.Machine.{Thread};
 ghost use mathlib.Core.List.{List};
 ghost use Rattle.steps.specs.Search.{Stands};
-ghost use Rattle.returning.specs.Reaching.{ReachContract};
+ghost use Rattle.returning.specs.Reaching.{ReachContract, MemoReached};
 ghost use Rattle.taking.specs.Takes.{cellOf, Room, inHand, backRegs, andWords, andRegs, orWords, orRegs, putProgram, supposeWords, supposeRegs, atomKept, AtomTaken, PlainAhead, plainWords, plainRegs};
 use branch::Back;
 use branch::Candidate;
@@ -121,28 +122,30 @@ fn take_or(book: &[u8], ws: &mut [u32], r: Regs, x: Cell) -> Regs
     in_hand(r, cells + 1, r.programs, r.alternatives + 1, r.supposed)
 }
 
-// Writes program p: a suppose goal's word, and the program before which its clauses are put.
-fn put_program(ws: &mut [u32], p: u32, w: u32, q: u32)
+// Writes program p: a suppose goal's word, the program before which its clauses are put, and the mark by which the memo knows it.
+fn put_program(ws: &mut [u32], p: u32, w: u32, q: u32, mark: u32)
     requires { ⌜ (p < 514) × (length (now ws) ≡ 16384) ⌝ }
-    ensures { λ x. ⌜ now (ws .exit) ≡ putProgram p w q (now (ws .entry)) ⌝ }
+    ensures { λ x. ⌜ now (ws .exit) ≡ putProgram p w q mark (now (ws .entry)) ⌝ }
 {
-    let at = (8200 + 2 * p) as usize;
+    let at = (8200 + 3 * p) as usize;
     ws[at] = w;
     ws[at + 1] = q;
+    ws[at + 2] = mark;
 }
 
 // Takes a suppose goal: its clauses are put before the program, and its goal has the new program.
-fn take_suppose(book: &[u8], ws: &mut [u32], r: Regs, x: Cell) -> Regs
+// The program's mark is the units that are left: putting a program takes a unit, so no two programs of a run have the same mark.
+fn take_suppose(book: &[u8], ws: &mut [u32], r: Regs, x: Cell, left: u32) -> Regs
     requires { ⌜ Readable (now book) ⌝ }
     requires { ⌜ x .goal < records (now book) ⌝ }
     requires { ⌜ Room (now ws) r x ⌝ }
-    ensures { λ y. ⌜ now (ws .exit) ≡ supposeWords (now (book .entry)) r x (now (ws .entry)) ⌝ }
+    ensures { λ y. ⌜ now (ws .exit) ≡ supposeWords (now (book .entry)) r x left (now (ws .entry)) ⌝ }
     ensures { λ y. ⌜ y ≡ supposeRegs r ⌝ }
 {
     let goal = words::field(book, x.goal, 3);
     let cells = r.cells;
     let program = r.programs;
-    put_program(ws, program, 4096 * (x.goal + 1) + x.base, x.program);
+    put_program(ws, program, 4096 * (x.goal + 1) + x.base, x.program, left);
     branch::put_cell(ws, cells, 4096 * (goal + 1) + x.base, program, x.next);
     in_hand(r, cells, program + 1, r.alternatives, true)
 }
@@ -189,12 +192,12 @@ fn most_rules(taken: u32, left: u32) -> u32
     requires { ⌜ taken ≤ 512 ⌝ }
     ensures { λ n. ⌜ (taken + n ≤ 512) × (2 * n ≤ left) ⌝ }
 {
-    let goals = 512 - taken;
-    let pairs = left / 2;
-    if goals < pairs {
-        return goals;
+    let by_goals = 512 - taken;
+    let by_units = left / 2;
+    if by_goals < by_units {
+        return by_goals;
     }
-    pairs
+    by_units
 }
 
 // Follows plain rules from the goal of cell x, if its program is the question's own.
@@ -237,13 +240,15 @@ fn take_plain(ws: &mut [u32], r: Regs, x: Cell, p: Followed) -> Regs
 }
 
 // Takes an atom: its first candidate is tried next; with none, go back.
-fn take_atom(book: &[u8], ws: &[u32], r: Regs, x: Cell) -> Reached
+fn take_atom(book: &[u8], ws: &mut [u32], r: Regs, x: Cell) -> Reached
     requires { ⌜ Readable (now book) ⌝ }
     requires { ⌜ Formed (now book) × OwnReady (now book) 0 × OwnIndexed (now book) (now ws) ⌝ }
     requires { ⌜ Standing (now book) (now ws) (r .made) (r .programs) (x .program) 0 ⌝ }
     requires { ⌜ x .goal < records (now book) ⌝ }
     requires { ⌜ Room (now ws) r x ⌝ }
+    requires { ⌜ ((left : ℕ) × Memo (now book) (now ws) (r .programs) left) ⌝ }
     ensures { λ y. ⌜ AtomTaken (now (book .entry)) (now (ws .entry)) r x y ⌝ }
+    ensures { λ y. ⌜ MemoStays (now (book .entry)) (r .programs) (now (ws .entry)) (now (ws .exit)) ⌝ }
 {
     let f = words::field(book, x.goal, 1);
     let m = words::field(book, x.goal, 2);
@@ -259,7 +264,9 @@ pub fn take(book: &[u8], ws: &mut [u32], r: Regs, left: u32) -> Reached
     requires { ⌜ Accepted (now book) × OwnReady (now book) 0 × OwnIndexed (now book) (now ws) ⌝ }
     requires { ⌜ (r .solving ≡ true) × (0 < r .cell) × (0 < left) ⌝ }
     requires { ⌜ ((threads : List Thread) × Stands (now book) (now ws) r threads) ⌝ }
+    requires { ⌜ Memo (now book) (now ws) (r .programs) left ⌝ }
     ensures { λ o. ⌜ ReachContract (now (book .entry)) (now (ws .entry)) (now (ws .exit)) r left o ⌝ }
+    ensures { λ o. ⌜ MemoReached (now (book .entry)) (now (ws .exit)) left o ⌝ }
 {
     if 512 <= r.taken {
         return Reached::Finished(Ending::Stopped(Limit::Goals), 0);
@@ -283,6 +290,6 @@ pub fn take(book: &[u8], ws: &mut [u32], r: Regs, left: u32) -> Reached
         let y = take_or(book, ws, r, x);
         return Reached::Onward(1, y);
     }
-    let y = take_suppose(book, ws, r, x);
+    let y = take_suppose(book, ws, r, x, left);
     Reached::Onward(1, y)
 }

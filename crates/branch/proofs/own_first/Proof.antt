@@ -13,7 +13,7 @@ use Rattle.words.proofs.field.Reads as field-reads
 -- src/lib.rt:177:17
 sub-last : tie.Need-sub-last
 unfolding records
-sub-last c = omega (arith, c .before .before .pre .1 .0 .some)
+sub-last c = omega (arith, c .before .before .pre .1 .0 .0 .some)
 
 -- src/lib.rt:177:16
 cast-last : tie.Need-cast-last
@@ -22,17 +22,17 @@ cast-last c = search needs
 -- src/lib.rt:178:9
 field-requires : tie.Need-field-requires
 unfolding records lastRecord
-field-requires c κs = let p = c .before .before .pre in (p .0, (last-in _ (p .0) _ (p .1 .0) _ 0 0 refl, search needs))
+field-requires c κs = let p = c .before .before .pre in (p .0, (last-in _ (p .0) _ (p .1 .0 .0) _ 0 0 refl, search needs))
 
 -- src/lib.rt:179:9
 field-requires-2 : tie.Need-field-requires-2
 unfolding records lastRecord
-field-requires-2 c κs = let p = c .before .before .before .pre in (p .0, (last-in _ (p .0) _ (p .1 .0) _ 0 0 refl, search needs))
+field-requires-2 c κs = let p = c .before .before .before .pre in (p .0, (last-in _ (p .0) _ (p .1 .0 .0) _ 0 0 refl, search needs))
 
 -- src/lib.rt:180:9
 first-match-requires : tie.Need-first-match-requires
 unfolding records lastRecord
-first-match-requires c κs = let p = c .before .before .before .before .pre in let x = own-run-ready _ (p .0) _ (p .1 .0) _ _ _ refl _ (p .1 .1) (p .1 .2) (c .before .field .ensures .0) (c .field2 .ensures .0) in (p .0, (x .0, x .1))
+first-match-requires c κs = let p = c .before .before .before .before .pre in let x = own-run-ready _ (p .0) _ (p .1 .0 .0) _ _ _ refl _ (p .1 .0 .1) (p .1 .0 .2) (c .before .field .ensures .0) (c .field2 .ensures .0) in (p .0, (x .0, (x .1 .0, (x .1 .1, p .1 .1))))
 
 -- src/lib.rt:182:9
 returns : tie.Need-returns

@@ -1,60 +1,75 @@
 use native.Mathlib.Omega.{arith}
-use Rattle.branch.proofs.SeekChain.{own-matches, own-sought, candidate-put, word-here, word-nowhere}
 use borrow.Author.Needs.{needs}
+use mathlib.Core.Path.{_≡_, refl, sym, _∙_, ap}
 use Rattle.branch.proofs.seek_after.Statement.{statement}
 use Rattle.branch.proofs.seek_after.Tie as tie
 use Rattle.branch.proofs.seek_after.Reads as reads
 use Rattle.branch.proofs.seek_after.Lts as lts
-use Rattle.branch.proofs.own_after.Reads as own-after-reads
+use Rattle.words.proofs.StackLaws.{keeps-narrow}
+use Rattle.index.proofs.IndexLaws.{indexed-same}
+use Rattle.branch.proofs.SeekChain.{own-matches, own-sought, candidate-put, put-at}
+use Rattle.branch.proofs.MemoLaws.{stays-none, remembers-only, remembers-stay}
 use Rattle.branch.proofs.own_first.Reads as own-first-reads
+use Rattle.branch.proofs.known.Reads as known-reads
+use Rattle.branch.proofs.found.Reads as found-reads
 use Rattle.branch.proofs.seek_put.Reads as seek-put-reads
+use Rattle.branch.proofs.remember.Reads as remember-reads
+use Rattle.branch.proofs.own_after.Reads as own-after-reads
 
--- src/lib.rt:238:9
 own-after-requires : tie.Need-own-after-requires
-own-after-requires c κs = let p = c .before .before .before .pre in (p .0, ((p .1 .0 .1, p .1 .1 .1 .0, p .1 .0 .2), own-matches _ (p .1 .0 .0) _ _ _ _ _ _ _ (p .1 .0 .1) (c .if1 .taken) (p .1 .1 .0)))
+own-after-requires c κs = let p = c .before .before .before .before .pre in (p .0, ((p .1 .0 .1, p .1 .1 .1 .0 .0, p .1 .0 .2), own-matches _ (p .1 .0 .0) _ _ _ _ _ _ _ (p .1 .0 .1) (c .before .if1 .taken) (p .1 .1 .0)))
 
--- src/lib.rt:238:9
+same-length : tie.Need-same-length
+same-length c = search needs
+
 returns : tie.Need-returns
-returns c = let p = c .before .before .before .before .pre in λ rest z. rw (c .own-after .ensures) (own-sought _ (p .1 .0 .0) _ _ _ _ _ _ _ _ (p .1 .0 .1) (c .before .if1 .taken) z)
+returns c = let p = c .before .before .before .before .before .pre in ((λ rest z. rw (c .own-after .ensures) (own-sought _ (p .1 .0 .0) _ _ _ _ _ _ _ _ (p .1 .0 .1) (c .before .before .if1 .taken) z)), stays-none _ _ _)
 
--- src/lib.rt:240:46
-add-seek-put : tie.Need-add-seek-put
-add-seek-put c = let p = c .before .before .before .pre in omega (arith, candidate-put _ (p .0) (p .1 .0 .0) _ _ _ _ _ _ _ (omega arith) (p .1 .1 .0) .0)
+add-known : tie.Need-add-known
+add-known c = let p = c .before .before .before .before .pre in let y = c .before .if1 .left in omega (arith, candidate-put _ (p .0) (p .1 .0 .0) _ _ _ _ _ _ _ (omega arith) (p .1 .1 .0) .0)
 
--- src/lib.rt:240:9
-seek-put-requires : tie.Need-seek-put-requires
-seek-put-requires c κs = let p = c .before .before .before .pre in (p .0, (p .1 .0 .0, (candidate-put _ (p .0) (p .1 .0 .0) _ _ _ _ _ _ _ (omega arith) (p .1 .1 .0) .1, (p .1 .1 .1 .0, p .1 .1 .1 .1, λ e. absurd (c .if1 .left e)))))
+known-requires : tie.Need-known-requires
+known-requires c κs = let p = c .before .before .before .before .pre in let y = c .before .if1 .left in let C = candidate-put _ (p .0) (p .1 .0 .0) _ _ _ _ _ _ _ (omega arith) (p .1 .1 .0) in let x = put-at (omega arith) (C .1 .1) in ((p .1 .1 .1 .0 .0, x .some, x .below, p .1 .1 .1 .0 .1, omega (arith, C .0), p .1 .1 .1 .0 .2, p .1 .1 .1 .0 .3), p .1 .1 .1 .1)
 
--- src/lib.rt:242:31
-sub-t12 : tie.Need-sub-t12
-sub-t12 c = search needs
+sub-found : tie.Need-sub-found
+sub-found c = search needs
 
--- src/lib.rt:242:47
-sub-t14 : tie.Need-sub-t14
-sub-t14 c = search needs
+found-requires : tie.Need-found-requires
+found-requires c κs = let p = c .before .before .before .before .before .before .before .pre in (p .0, (p .1 .0, (p .1 .1 .1 .0 .0, p .1 .1 .1 .0 .2, p .1 .1 .1 .0 .3)))
 
--- src/lib.rt:242:9
+same-length-2 : tie.Need-same-length-2
+same-length-2 c = search needs
+
 returns-2 : tie.Need-returns-2
-returns-2 c = λ rest z. word-here (c .before .seek-put .ensures rest z) (c .if2 .taken)
+returns-2 c = ((λ rest z. c .found .ensures _ _ _ rest (c .before .before .before .known .ensures .1 (c .before .before .if2 .taken) _ _ rest z)), stays-none _ _ _)
 
--- src/lib.rt:244:5
-own-first-requires : tie.Need-own-first-requires
-own-first-requires c κs = search needs
+add-seek-put : tie.Need-add-seek-put
+add-seek-put c = let p = c .before .before .before .before .before .before .before .pre in let y = c .before .before .before .before .if1 .left in omega (arith, candidate-put _ (p .0) (p .1 .0 .0) _ _ _ _ _ _ _ (omega arith) (p .1 .1 .0) .0)
 
--- src/lib.rt:221:1
+seek-put-requires : tie.Need-seek-put-requires
+seek-put-requires c κs = let p = c .before .before .before .before .before .before .before .pre in let y = c .before .before .before .before .if1 .left in let C = candidate-put _ (p .0) (p .1 .0 .0) _ _ _ _ _ _ _ (omega arith) (p .1 .1 .0) in (p .0, (p .1 .0 .0, (C .1, ((p .1 .1 .1 .0 .0, p .1 .1 .1 .0 .1, (λ e. absurd (y e)), p .1 .1 .1 .0 .2, p .1 .1 .1 .0 .3), p .1 .1 .1 .1))))
+
+add-remember : tie.Need-add-remember
+add-remember c = let p = c .before .before .before .before .before .before .before .before .before .pre in let y = c .before .before .before .before .before .before .if1 .left in omega (arith, candidate-put _ (p .0) (p .1 .0 .0) _ _ _ _ _ _ _ (omega arith) (p .1 .1 .0) .0)
+
+remember-requires : tie.Need-remember-requires
+remember-requires c κs = let p = c .before .before .before .before .before .before .before .before .before .pre in let y = c .before .before .before .before .before .before .if1 .left in let C = candidate-put _ (p .0) (p .1 .0 .0) _ _ _ _ _ _ _ (omega arith) (p .1 .1 .0) in let x = put-at (omega arith) (C .1 .1) in (p .1 .1 .1 .0 .0, omega (arith, x .below, p .1 .1 .1 .0 .1), omega (arith, C .0), p .1 .1 .1 .0 .2, p .1 .1 .1 .0 .3, c .before .seek-put .ensures .0)
+
+found-requires-2 : tie.Need-found-requires-2
+found-requires-2 c κs = let p = c .before .before .before .before .before .before .before .before .before .before .before .before .before .pre in
+    let M = remembers-only _ _ _ _ _ _ (p .1 .1 .1 .0 .0) in
+    (p .0, rw (c .before .before .before .remember .ensures) ((p .1 .0 .0, p .1 .0 .1, indexed-same _ _ _ (p .1 .0 .1 .count-small) (keeps-narrow (omega arith) (omega arith) (M .below)) (p .1 .0 .2)), (M .below .size ∙ p .1 .1 .1 .0 .0, p .1 .1 .1 .0 .2, p .1 .1 .1 .0 .3)))
+
+same-length-3 : tie.Need-same-length-3
+same-length-3 c = search needs
+
 returns-3 : tie.Need-returns-3
-returns-3 c = λ rest z. let p = c .before .before .before .before .before .before .pre in rw (c .own-first .ensures) (word-nowhere (c .before .before .seek-put .ensures rest z) (p .1 .0 .0) (p .1 .0 .1) (c .before .if2 .left))
+returns-3 c = let p = c .before .before .before .before .before .before .before .before .before .before .before .before .before .before .pre in
+    let y = c .before .before .before .before .before .before .before .before .before .before .before .if1 .left in
+    let x = put-at (omega arith) (candidate-put _ (p .0) (p .1 .0 .0) _ _ _ _ _ _ _ (omega arith) (p .1 .1 .0) .1 .1) in
+    let F = c .before .before .before .before .before .before .seek-put .ensures in
+    ((λ rest z. c .found2 .ensures _ _ _ rest (F .1 _ _ rest z)), rw (c .before .before .before .before .remember .ensures) (remembers-stay _ _ _ _ _ _ (p .1 .1 .1 .0 .0) _ _ (x .some) (x .below) (p .1 .1 .1 .0 .1) (p .1 .1 .1 .0 .3) (F .0) (F .1)))
 
 pub seek-after-spec : {M : Type 1} → statement M
 seek-after-spec =
-    tie.close
-    (tie.spec
-    own-after-requires
-    returns
-    add-seek-put
-    seek-put-requires
-    sub-t12
-    sub-t14
-    returns-2
-    own-first-requires
-    returns-3)
+    tie.close (tie.spec own-after-requires same-length returns add-known known-requires sub-found found-requires same-length-2 returns-2 add-seek-put seek-put-requires add-remember remember-requires found-requires-2 same-length-3 returns-3)

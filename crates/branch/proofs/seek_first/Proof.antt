@@ -1,37 +1,64 @@
-use mathlib.Core.Path.{refl}
-use Rattle.branch.proofs.SeekChain.{word-here, word-nowhere}
+use native.Mathlib.Omega.{arith}
 use borrow.Author.Needs.{needs}
+use mathlib.Core.Path.{_≡_, refl, sym, _∙_, ap}
 use Rattle.branch.proofs.seek_first.Statement.{statement}
 use Rattle.branch.proofs.seek_first.Tie as tie
 use Rattle.branch.proofs.seek_first.Reads as reads
 use Rattle.branch.proofs.seek_first.Lts as lts
+use Rattle.words.proofs.StackLaws.{keeps-narrow}
+use Rattle.index.proofs.IndexLaws.{indexed-same}
+use Rattle.branch.proofs.SeekChain.{own-matches, own-sought, candidate-put, put-at}
+use Rattle.branch.proofs.MemoLaws.{stays-none, remembers-only, remembers-stay}
 use Rattle.branch.proofs.own_first.Reads as own-first-reads
+use Rattle.branch.proofs.known.Reads as known-reads
+use Rattle.branch.proofs.found.Reads as found-reads
 use Rattle.branch.proofs.seek_put.Reads as seek-put-reads
+use Rattle.branch.proofs.remember.Reads as remember-reads
 
--- src/lib.rt:213:9
-seek-put-requires : tie.Need-seek-put-requires
-seek-put-requires c κs = let p = c .before .before .pre in (p .0, (p .1 .0 .0, (p .1 .1 .0, (p .1 .1 .1 .0, p .1 .1 .1 .1, λ e. refl))))
-
--- src/lib.rt:215:31
-sub-t10 : tie.Need-sub-t10
-sub-t10 c = search needs
-
--- src/lib.rt:215:47
-sub-t12 : tie.Need-sub-t12
-sub-t12 c = search needs
-
--- src/lib.rt:215:9
-returns : tie.Need-returns
-returns c = λ rest z. word-here (c .before .seek-put .ensures rest z) (c .if1 .taken)
-
--- src/lib.rt:217:5
 own-first-requires : tie.Need-own-first-requires
-own-first-requires c κs = search needs
+own-first-requires c κs = let p = c .before .before .before .before .pre in (p .0, ((p .1 .0 .1, p .1 .1 .1 .0 .0, p .1 .0 .2), (p .1 .1 .1 .0 .2, p .1 .1 .1 .0 .3)))
 
--- src/lib.rt:198:1
+same-length : tie.Need-same-length
+same-length c = search needs
+
+returns : tie.Need-returns
+returns c = let p = c .before .before .before .before .before .pre in ((λ rest z. rw (c .own-first .ensures) (own-sought _ (p .1 .0 .0) _ _ _ _ _ _ _ _ (p .1 .0 .1) (c .before .before .if1 .taken) z)), stays-none _ _ _)
+
+known-requires : tie.Need-known-requires
+known-requires c κs = let p = c .before .before .before .before .pre in let x = put-at (omega (arith, c .before .if1 .left)) (p .1 .1 .0 .1) in ((p .1 .1 .1 .0 .0, x .some, x .below, p .1 .1 .1 .0 .1, omega arith, p .1 .1 .1 .0 .2, p .1 .1 .1 .0 .3), p .1 .1 .1 .1)
+
+sub-found : tie.Need-sub-found
+sub-found c = search needs
+
+found-requires : tie.Need-found-requires
+found-requires c κs = let p = c .before .before .before .before .before .before .before .pre in (p .0, (p .1 .0, (p .1 .1 .1 .0 .0, p .1 .1 .1 .0 .2, p .1 .1 .1 .0 .3)))
+
+same-length-2 : tie.Need-same-length-2
+same-length-2 c = search needs
+
 returns-2 : tie.Need-returns-2
-returns-2 c = λ rest z. let p = c .before .before .before .before .before .pre in rw (c .own-first .ensures) (word-nowhere (c .before .before .seek-put .ensures rest z) (p .1 .0 .0) (p .1 .0 .1) (c .before .if1 .left))
+returns-2 c = ((λ rest z. c .found .ensures _ _ _ rest (c .before .before .before .known .ensures .1 (c .before .before .if2 .taken) _ _ rest z)), stays-none _ _ _)
+
+seek-put-requires : tie.Need-seek-put-requires
+seek-put-requires c κs = let p = c .before .before .before .before .before .before .before .pre in (p .0, (p .1 .0 .0, (p .1 .1 .0, ((p .1 .1 .1 .0 .0, p .1 .1 .1 .0 .1, (λ e. refl), p .1 .1 .1 .0 .2, p .1 .1 .1 .0 .3), p .1 .1 .1 .1))))
+
+remember-requires : tie.Need-remember-requires
+remember-requires c κs = let p = c .before .before .before .before .before .before .before .before .before .pre in let x = put-at (omega (arith, c .before .before .before .before .before .before .if1 .left)) (p .1 .1 .0 .1) in (p .1 .1 .1 .0 .0, omega (arith, x .below, p .1 .1 .1 .0 .1), omega arith, p .1 .1 .1 .0 .2, p .1 .1 .1 .0 .3, c .before .seek-put .ensures .0)
+
+found-requires-2 : tie.Need-found-requires-2
+found-requires-2 c κs = let p = c .before .before .before .before .before .before .before .before .before .before .before .before .before .pre in
+    let M = remembers-only _ _ _ _ _ _ (p .1 .1 .1 .0 .0) in
+    (p .0, rw (c .before .before .before .remember .ensures) ((p .1 .0 .0, p .1 .0 .1, indexed-same _ _ _ (p .1 .0 .1 .count-small) (keeps-narrow (omega arith) (omega arith) (M .below)) (p .1 .0 .2)), (M .below .size ∙ p .1 .1 .1 .0 .0, p .1 .1 .1 .0 .2, p .1 .1 .1 .0 .3)))
+
+same-length-3 : tie.Need-same-length-3
+same-length-3 c = search needs
+
+returns-3 : tie.Need-returns-3
+returns-3 c = let p = c .before .before .before .before .before .before .before .before .before .before .before .before .before .before .pre in
+    let x = put-at (omega (arith, c .before .before .before .before .before .before .before .before .before .before .before .if1 .left)) (p .1 .1 .0 .1) in
+    let F = c .before .before .before .before .before .before .seek-put .ensures in
+    ((λ rest z. c .found2 .ensures _ _ _ rest (F .1 _ _ rest z)), rw (c .before .before .before .before .remember .ensures) (remembers-stay _ _ _ _ _ _ (p .1 .1 .1 .0 .0) _ _ (x .some) (x .below) (p .1 .1 .1 .0 .1) (p .1 .1 .1 .0 .3) (F .0) (F .1)))
 
 pub seek-first-spec : {M : Type 1} → statement M
 seek-first-spec =
-    tie.close (tie.spec seek-put-requires sub-t10 sub-t12 returns own-first-requires returns-2)
+    tie.close (tie.spec own-first-requires same-length returns known-requires sub-found found-requires same-length-2 returns-2 seek-put-requires remember-requires found-requires-2 same-length-3 returns-3)

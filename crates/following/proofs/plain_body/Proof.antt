@@ -34,7 +34,7 @@ field-requires-3 c κs = search needs
 
 -- src/lib.rt:50:9
 first-match-requires : tie.Need-first-match-requires
-first-match-requires c κs = let p = c .before .before .before .before .before .before .before .pre in let x = run-ready _ (p .1 .0 .0) (p .1 .0 .1) _ _ (p .1 .1 .0 .0) (p .1 .1 .0 .1) _ (p .1 .1 .1 .1) (p .1 .0 .2) in (p .0, (x .0, x .1))
+first-match-requires c κs = let p = c .before .before .before .before .before .before .before .pre in let x = run-ready _ (p .1 .0 .0) (p .1 .0 .1) _ _ (p .1 .1 .0 .0) (p .1 .1 .0 .1) _ (p .1 .1 .1 .1) (p .1 .0 .2) in (p .0, (x .0, (x .1 .0, (x .1 .1, (c .field3 .ensures .1, omega arith)))))
 
 -- src/lib.rt:52:9
 returns-3 : tie.Need-returns-3

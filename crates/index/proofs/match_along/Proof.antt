@@ -3,7 +3,7 @@ use borrow.Author.Needs.{needs}
 use mathlib.Core.Path.{_≡_, refl, sym, _∙_}
 use Prim.Native.Nat.{_-_, _%_}
 use Rattle.index.specs.Runs.{nextMatch}
-use Rattle.index.specs.Index.{InBucket}
+use Rattle.index.specs.Index.{headBucket, InBucket}
 use Rattle.index.proofs.RunLaws.{next-none, next-found, next-on}
 use Rattle.index.proofs.IndexLaws.{next-bucket, next-later, next-skips}
 use Rattle.index.proofs.match_along.Statement.{statement}
@@ -14,7 +14,7 @@ use Rattle.index.proofs.head_matches.Reads as head-matches-reads
 use Rattle.words.proofs.field.Reads as field-reads
 
 abbrev Inv-loop : tie.InvT-loop
-Inv-loop book ws first n j f m i₀ i = InBucket book first n (f % 1024) i × (nextMatch book f m first i (n - i) ≡ nextMatch book f m first j (n - j))
+Inv-loop book ws first n j f m i₀ i = InBucket book first n (headBucket f m) i × (nextMatch book f m first i (n - i) ≡ nextMatch book f m first j (n - j))
 
 abbrev μ-loop : tie.MeasureT-loop
 μ-loop book ws first n j f m i₀ i = n - i
@@ -57,11 +57,11 @@ shared-slice-read-i c = let p = c .before .before .before .before .before .befor
 
 -- src/lib.rt:98:5
 loop-less : tie.Need-loop-less Inv-loop μ-loop
-loop-less c = let p = c .before .before .before .before .before .before .before .before .pre .1 .1 in let i = c .before .before .before .before .before .loop .inv in omega (arith, next-later _ _ _ _ _ (p .1 .0) _ (c .before .before .before .before .loop-test .taken) (i .0 .bucket (c .before .before .before .before .loop-test .taken)), c .before .before .before .before .loop-test .taken)
+loop-less c = let p = c .before .before .before .before .before .before .before .before .pre .1 .1 in let i = c .before .before .before .before .before .loop .inv in omega (arith, next-later _ _ _ _ (p .1 .0) _ _ _ (c .before .before .before .before .loop-test .taken) (i .0 .bucket (c .before .before .before .before .loop-test .taken)), c .before .before .before .before .loop-test .taken)
 
 -- src/lib.rt:98:5
 loop-again : tie.Need-loop-again Inv-loop μ-loop
-loop-again c = let p = c .before .before .before .before .before .before .before .before .pre .1 .1 in let i = c .before .before .before .before .before .loop .inv in let h = c .before .before .before .before .loop-test .taken in let b = i .0 .bucket h in (next-bucket _ _ _ _ _ (p .1 .0) _ h b, next-skips _ _ _ _ _ (p .1 .0) _ h b _ ∙ sym (next-on _ _ _ _ _ _ _ _ h (c .before .before .before .field .ensures .0) (c .before .before .head-matches .ensures) (c .before .if1 .left)) ∙ i .1)
+loop-again c = let p = c .before .before .before .before .before .before .before .before .pre .1 .1 in let i = c .before .before .before .before .before .loop .inv in let h = c .before .before .before .before .loop-test .taken in let b = i .0 .bucket h in (next-bucket _ _ _ _ (p .1 .0) _ _ _ h b, next-skips _ _ _ _ (p .1 .0) _ _ _ h b ∙ sym (next-on _ _ _ _ _ _ _ _ h (c .before .before .before .field .ensures .0) (c .before .before .head-matches .ensures) (c .before .if1 .left)) ∙ i .1)
 
 -- src/lib.rt:89:1
 returns-2 : tie.Need-returns-2 Inv-loop μ-loop

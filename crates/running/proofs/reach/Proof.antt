@@ -3,6 +3,7 @@ use borrow.Author.Tests.{not-true, not-false}
 use Rattle.words.proofs.FromAccepted.{readable}
 use Rattle.branch.proofs.FromScoped.{own-ready}
 use Rattle.running.proofs.StepTurns.{due-no, goal-spent}
+use Rattle.taking.proofs.MemoFrames.{memo-ended}
 use borrow.Author.Needs.{needs}
 use Rattle.running.proofs.reach.Statement.{statement}
 use Rattle.running.proofs.reach.Tie as tie
@@ -25,7 +26,7 @@ returns c = search needs
 
 -- src/lib.rt:148:9
 returns-2 : tie.Need-returns-2
-returns-2 c = goal-spent (not-false _ (c .before .if1 .left)) (c .if2 .taken)
+returns-2 c = (goal-spent (not-false _ (c .before .if1 .left)) (c .if2 .taken), memo-ended _ _ _ _ _)
 
 -- src/lib.rt:150:5
 take-requires : tie.Need-take-requires

@@ -45,15 +45,15 @@ returns-2 c = search needs
 
 -- src/lib.rt:178:9
 reach-requires : tie.Need-reach-requires
-reach-requires c κs = let p = c .before .before .before .before .before .before .before .pre in let M = p .1 .1 in ((p .0 .accepted, M .indexed), (sym (c .before .before .answer-due .ensures) ∙ c .before .if1 .left, (M .threads, M .stands)))
+reach-requires c κs = let p = c .before .before .before .before .before .before .before .pre in let M = p .1 .1 in ((p .0 .accepted, M .indexed), (sym (c .before .before .answer-due .ensures) ∙ c .before .if1 .left, ((M .threads, M .stands), M .memo)))
 
 -- src/lib.rt:179:9
 go-on-requires : tie.Need-go-on-requires
-go-on-requires c κs = let p = c .before .before .before .before .before .before .before .before .before .before .before .pre in let A = p .0 .accepted in let M = p .1 .1 in (readable _ A, (A, can-go-on (own-ready _ A) (M .indexed) (c .before .before .before .reach .ensures (M .threads) (M .stands))))
+go-on-requires c κs = let p = c .before .before .before .before .before .before .before .before .before .before .before .pre in let A = p .0 .accepted in let M = p .1 .1 in let o = c .before .before .before .reach .ensures in (readable _ A, (A, (can-go-on (own-ready _ A) (M .indexed) (o .0 (M .threads) (M .stands)), o .1)))
 
 -- src/lib.rt:180:5
 step-taken-requires : tie.Need-step-taken-requires
-step-taken-requires c κs = let p = c .before .before .before .before .before .before .before .before .before .before .before .before .before .before .pre in units-fit _ _ _ _ _ _ _ _ _ _ _ (p .0) (p .1 .1) _ _ _ (search needs) refl (step-whole (c .before .before .before .before .before .before .reach .ensures) (c .before .before .go-on .ensures))
+step-taken-requires c κs = let p = c .before .before .before .before .before .before .before .before .before .before .before .before .before .before .pre in units-fit _ _ _ _ _ _ _ _ _ _ _ (p .0) (p .1 .1) _ _ _ (search needs) refl (step-whole (c .before .before .before .before .before .before .reach .ensures .0) (c .before .before .go-on .ensures .0))
 
 -- src/lib.rt:155:1
 same-length-3 : tie.Need-same-length-3
@@ -61,7 +61,7 @@ same-length-3 c = search needs
 
 -- src/lib.rt:155:1
 returns-3 : tie.Need-returns-3
-returns-3 c = λ whole M. step-turns _ _ _ _ _ _ _ _ _ _ whole (c .before .before .before .before .before .before .before .before .before .before .before .before .before .before .before .pre .0) M _ _ _ _ refl (step-whole (c .before .before .before .before .before .before .before .reach .ensures) (c .before .before .before .go-on .ensures)) (c .step-taken .ensures)
+returns-3 c = λ whole M. step-turns _ _ _ _ _ _ _ _ _ _ whole (c .before .before .before .before .before .before .before .before .before .before .before .before .before .before .before .pre .0) M _ _ _ _ refl (step-whole (c .before .before .before .before .before .before .before .reach .ensures .0) (c .before .before .before .go-on .ensures .0)) (c .before .before .before .go-on .ensures .1) (c .step-taken .ensures)
 
 pub turn-spec : {M : Type 1} → statement M
 turn-spec =

@@ -40,6 +40,18 @@ mul-ws-2 c = search needs
 slice-write-ws-2 : tie.Need-slice-write-ws-2
 slice-write-ws-2 c = simp length-set (omega arith)
 
+-- src/lib.rt:116:8
+add-ws-2 : tie.Need-add-ws-2
+add-ws-2 c = search needs
+
+-- src/lib.rt:116:5
+mul-ws-3 : tie.Need-mul-ws-3
+mul-ws-3 c = search needs
+
+-- src/lib.rt:116:5
+slice-write-ws-3 : tie.Need-slice-write-ws-3
+slice-write-ws-3 c = simp length-set (omega arith)
+
 -- src/lib.rt:109:1
 same-length : tie.Need-same-length
 same-length c = search needs
@@ -61,5 +73,8 @@ put-program-spec =
     add-ws
     mul-ws-2
     slice-write-ws-2
+    add-ws-2
+    mul-ws-3
+    slice-write-ws-3
     same-length
     returns)

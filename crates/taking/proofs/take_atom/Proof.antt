@@ -20,7 +20,7 @@ field-requires-2 c κs = search needs
 
 -- src/lib.rt:196:11
 seek-first-requires : tie.Need-seek-first-requires
-seek-first-requires c κs = let p = c .before .before .before .before .pre in (p .0, (p .1 .0, (p .1 .1 .0, (p .1 .1 .1 .1 .1 .6, omega (arith, p .1 .1 .1 .1 .1 .3)))))
+seek-first-requires c κs = let p = c .before .before .before .before .before .pre in let room = p .1 .1 .1 .1 .0 .1 in (p .0, (p .1 .0, (p .1 .1 .0, ((room .6, omega (arith, room .3), c .before .before .field .ensures .1, c .before .field2 .ensures .1), p .1 .1 .1 .1 .1))))
 
 -- src/lib.rt:197:23
 enum-known-q : tie.Need-enum-known-q
@@ -39,12 +39,20 @@ to-back-requires : tie.Need-to-back-requires
 to-back-requires c κs = search needs
 
 -- src/lib.rt:186:1
+same-length : tie.Need-same-length
+same-length c = search needs
+
+-- src/lib.rt:186:1
 returns : tie.Need-returns
-returns c = atom-at _ _ _ _ _ _ _ (c .before .before .before .before .before .before .field .ensures .0) (c .before .before .before .before .before .field2 .ensures .0) (c .before .before .before .before .seek-first .ensures) _ _ _ (c .before .before .q .given .1) (c .at-clause .ensures)
+returns c = (atom-at _ _ _ _ _ _ _ (c .before .before .before .before .before .before .before .before .before .field .ensures .0) (c .before .before .before .before .before .before .before .before .field2 .ensures .0) (c .before .before .before .before .before .before .seek-first .ensures .0) _ _ _ (c .before .before .q .given .1) (c .at-clause .ensures), c .before .before .before .before .before .before .seek-first .ensures .1)
+
+-- src/lib.rt:186:1
+same-length-2 : tie.Need-same-length-2
+same-length-2 c = search needs
 
 -- src/lib.rt:186:1
 returns-2 : tie.Need-returns-2
-returns-2 c = atom-none _ _ _ _ _ _ _ (c .before .before .before .before .before .field .ensures .0) (c .before .before .before .before .field2 .ensures .0) (c .before .before .before .seek-first .ensures) _ (c .before .enum-told .given .1) (c .to-back .ensures)
+returns-2 c = (atom-none _ _ _ _ _ _ _ (c .before .before .before .before .before .before .before .before .field .ensures .0) (c .before .before .before .before .before .before .before .field2 .ensures .0) (c .before .before .before .before .before .seek-first .ensures .0) _ (c .before .enum-told .given .1) (c .to-back .ensures), c .before .before .before .before .before .seek-first .ensures .1)
 
 pub take-atom-spec : {M : Type 1} → statement M
 take-atom-spec =
@@ -57,5 +65,7 @@ take-atom-spec =
     at-clause-requires
     enum-told
     to-back-requires
+    same-length
     returns
+    same-length-2
     returns-2)

@@ -61,7 +61,7 @@ same-length c = search needs
 -- src/lib.rt:119:1
 returns : tie.Need-returns
 unfolding supposeRegs
-returns c = (suppose-written _ _ _ _ _ _ _ (c .before .before .before .before .before .before .before .before .before .before .before .before .field .ensures .0) (c .before .before .before .before .before .before .before .before .put-program .ensures) (c .before .before .before .put-cell .ensures), c .in-hand .ensures)
+returns c = (suppose-written _ _ _ _ _ _ _ _ (c .before .before .before .before .before .before .before .before .before .before .before .before .field .ensures .0) (c .before .before .before .before .before .before .before .before .put-program .ensures) (c .before .before .before .put-cell .ensures), c .in-hand .ensures)
 
 pub take-suppose-spec : {M : Type 1} → statement M
 take-suppose-spec =

@@ -26,6 +26,8 @@ pub fn rows() -> Vec<Row> {
         Row { name: "naive reverse among 8 x 64 others", book: reverse_among_others() },
         Row { name: "facts among 8 x 63 others", book: facts_among_others() },
         Row { name: "64 others made anew", book: others_made_anew() },
+        Row { name: "the last of 64 made anew", book: last_made_anew() },
+        Row { name: "512 predicates in turn, 8 x 64", book: in_turn() },
         kept!("deep ground terms", "e_deep-2"),
         kept!("bushy ground terms", "e_tree-2"),
         kept!("chain of 64", "f_chain-0"),
@@ -116,6 +118,23 @@ fn facts_among_others() -> Vec<u8> {
 fn others_made_anew() -> Vec<u8> {
     let k = |u| atom(K, &[variable(u)]);
     asked(and(k(0), and(k(1), others(1, 64, false, reverse(4)))))
+}
+
+/// Four goals 4,096 times over, each time in a supposition of 64 facts that is made anew; the last of them is the one that the goals ask for.
+fn last_made_anew() -> Vec<u8> {
+    let k = |u| atom(K, &[variable(u)]);
+    let last = || atom(63, &[]);
+    let four = and(last(), and(last(), and(last(), and(last(), atom(NONE, &[])))));
+    asked(and(k(0), and(k(1), and(k(2), others(1, 64, false, four)))))
+}
+
+/// Each of the 512 facts of eight suppositions asked for, one after the other, 16 times over: more places than the proved engine remembers.
+fn in_turn() -> Vec<u8> {
+    fn any(from: u16, to: u16) -> Goal {
+        let middle = (from + to) / 2;
+        if from == middle { atom(from, &[]) } else { or(any(from, middle), any(middle, to)) }
+    }
+    asked(others(8, 64, false, and(atom(K, &[variable(0)]), and(any(0, 512), atom(NONE, &[])))))
 }
 
 /// The same book with an unknown out of scope: every test is made over the whole book, the last fails.

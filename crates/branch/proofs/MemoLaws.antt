@@ -141,7 +141,7 @@ pub stays-trans : {book : List ℕ} {programs : ℕ} {ws ws₁ ws₂ : List ℕ}
 stays-trans a b = (only-trans (a .0) (b .0), λ left M. b .1 left (a .1 left M))
 
 -- WHERE AN ENTRY IS
-pub entry-here : (mark k f : ℕ) → (k < 1024) × (f < 65536) → (13328 + 3 * ((mark % 64 + f + k) % 64) ≡ entryAt mark k f) × (13328 + 3 * ((mark % 64 + f + k) % 64) + 2 < 13520)
+pub entry-here : (mark k f : ℕ) → (k < 1024) × (f < 65536) → (13328 + 3 * ((mark % 64 + f + k + k / 64) % 64) ≡ entryAt mark k f) × (13328 + 3 * ((mark % 64 + f + k + k / 64) % 64) + 2 < 13520)
 unfolding entryAt
 entry-here mark k f h = (refl, omega arith)
 
@@ -155,14 +155,14 @@ pub known-finds : {book ws : List ℕ} {top left q k f m mark e v : ℕ} → Mem
     → getD ws (e + 1) 0 ≡ 65536 * f + m → m < 65536 → v ≡ getD ws (e + 2) 0 → v / 4194304 ≡ k → 0 < v % 4194304 → Finds book ws q k f m (v % 4194304 - 1)
 unfolding entryAt
 known-finds {ws = ws} {k = k} {f = f} {m = m} {mark = mark} {e = e} {v = v} M a b me ee s x u ve ke z =
-    let E = (mark % 64 + f + k) % 64 in
+    let E = (mark % 64 + f + k + k / 64) % 64 in
     let F = M .right E _ (omega arith) a b (rw (← ee) (s ∙ me)) f m u (rw (← ee) x) (rw (← ee, ← ve) z) in
     rw (← ee, ← ve, ke) at F
 
 -- WHAT IS REMEMBERED
 module _ (ws : List ℕ) (p k f m w : ℕ) (long : length ws ≡ 16384) where
   abbrev slot : ℕ
-  slot = (markOf ws p % 64 + f + k) % 64
+  slot = (markOf ws p % 64 + f + k + k / 64) % 64
 
   abbrev at : ℕ
   at = 13328 + 3 * slot

@@ -17,7 +17,7 @@ markOf ws p = getD ws (8200 + 3 * p + 2) 0
 
 -- where the memo has the answer for a program with this mark, from clause k on, for a head with symbol f
 unfoldable pub entryAt : ℕ → ℕ → ℕ → ℕ
-entryAt mark k f = 13328 + 3 * ((mark % 64 + f + k) % 64)
+entryAt mark k f = 13328 + 3 * ((mark % 64 + f + k + k / 64) % 64)
 
 -- word w is what is found from clause k of program p on, for symbol f and m arguments
 abbrev pub Finds : List ℕ → List ℕ → ℕ → ℕ → ℕ → ℕ → ℕ → Type 0

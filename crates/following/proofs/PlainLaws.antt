@@ -19,14 +19,14 @@ use Rattle.machine.specs.Machine.{Force, candidates, added}
 use Rattle.index.specs.Runs.{headMatches, nextMatch, ClauseRun}
 use Rattle.index.specs.Index.{Indexed}
 use Rattle.branch.specs.State.{ownRun}
-use Rattle.branch.specs.Seeking.{OwnReady, OwnIndexed}
+use Rattle.branch.specs.Seeking.{OwnReady, AllIndexed}
 use Rattle.branch.proofs.SeekLaws.{forceAt, FoundAt, found-run}
 use Rattle.following.specs.declared.Followed.{Followed}
 use Rattle.following.specs.Plain.{plainClause, firstOwn, nextOwn, onlyOwn, plainBody, followOn, PlainClause, ownProgram, Plain, Chain, Chain.chain-none, Chain.chain-more}
 
 module _ (book : List ℕ) (F : Formed book) (O : OwnReady book 0) (first n : ℕ) (fe : first ≡ ownRun book .first) (ne : n ≡ ownRun book .count) where
-  pub run-ready : (ws : List ℕ) → length ws ≡ 16384 → OwnIndexed book ws → ClauseRun book first n × (((first < 4096) × (n ≤ 1024) × (length ws ≡ 16384)) × Indexed book first n ws)
-  run-ready ws l I = rw (fe, ne) (O .run, ((O .first-small, O .count-small, l), I))
+  pub run-ready : (ws : List ℕ) → length ws ≡ 16384 → AllIndexed book ws → ClauseRun book first n × (((first < 4096) × (n ≤ 1024) × (length ws ≡ 16384)) × Indexed book first n ws)
+  run-ready ws l I = rw (fe, ne) (O .run, ((O .first-small, O .count-small, l), I .own))
 
   -- the links and the clauses are in the book
   pub link-in : (i : ℕ) → i < n → (first + i < records book) × (field book (first + i) 1 < records book)

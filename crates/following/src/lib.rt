@@ -8,7 +8,7 @@ ghost use Rattle.book.specs.Kinds.{kindAt, clauseKind};
 ghost use Rattle.book.proofs.Accepted.{Formed};
 ghost use Rattle.words.specs.Readable.{Readable};
 ghost use Rattle.branch.specs.State.{ownRun};
-ghost use Rattle.branch.specs.Seeking.{OwnReady, OwnIndexed};
+ghost use Rattle.branch.specs.Seeking.{OwnReady, AllIndexed};
 ghost use Rattle.following.specs.Plain.{plainClause, plainBody, followOn};
 
 // Where plain rules lead: the goal, and how many were entered on the way.
@@ -35,7 +35,7 @@ fn plain_clause(book: &[u8], c: u32) -> u32
 // The body of the plain rule for goal g, one more than its record; 0 if there is none. The question's own run is n links from `first`.
 fn plain_body(book: &[u8], ws: &[u32], first: u32, n: u32, g: u32) -> u32
     requires { ⌜ Readable (now book) ⌝ }
-    requires { ⌜ Formed (now book) × OwnReady (now book) 0 × OwnIndexed (now book) (now ws) ⌝ }
+    requires { ⌜ Formed (now book) × OwnReady (now book) 0 × AllIndexed (now book) (now ws) ⌝ }
     requires { ⌜ (first ≡ ownRun (now book) .first) × (n ≡ ownRun (now book) .count) ⌝ }
     requires { ⌜ (g < records (now book)) × (length (now ws) ≡ 16384) ⌝ }
     ensures { λ r. ⌜ r ≡ plainBody (now (book .entry)) g ⌝ }
@@ -62,7 +62,7 @@ fn plain_body(book: &[u8], ws: &[u32], first: u32, n: u32, g: u32) -> u32
 // Follows plain rules from a goal, as far as they lead, but `most` of them at most.
 pub fn follow(book: &[u8], ws: &[u32], goal: u32, most: u32) -> Followed
     requires { ⌜ Readable (now book) ⌝ }
-    requires { ⌜ Formed (now book) × OwnReady (now book) 0 × OwnIndexed (now book) (now ws) ⌝ }
+    requires { ⌜ Formed (now book) × OwnReady (now book) 0 × AllIndexed (now book) (now ws) ⌝ }
     requires { ⌜ (goal < records (now book)) × (length (now ws) ≡ 16384) ⌝ }
     ensures { λ p. ⌜ p ≡ followOn (now (book .entry)) goal 0 most ⌝ }
 {

@@ -1,2 +1,7 @@
 pub mod RunLaws
+pub mod BucketLaws
 pub mod IndexLaws
+pub mod NoteLaws
+pub mod NoteWords
+pub mod SupposedLaws
+pub mod SearchLaws

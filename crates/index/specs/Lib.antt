@@ -1,3 +1,4 @@
--- Clauses by their heads. Runs: the next clause of a run that matches; Index: the buckets of the question's own run.
+-- Clauses by their heads. Runs: the next clause of a run that matches; Index: the buckets of the question's own run; Supposed: those of the supposed runs.
 pub mod Runs
 pub mod Index
+pub mod Supposed

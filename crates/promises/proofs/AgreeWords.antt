@@ -15,7 +15,9 @@ use Rattle.branch.proofs.kept.Reads as branch-kept-reads
 use Rattle.branch.proofs.go_back.Reads as branch-go-back-reads
 use Rattle.branch.proofs.keep.Reads as branch-keep-reads
 use Rattle.branch.proofs.put_cell.Reads as branch-put-cell-reads
-use Rattle.index.proofs.seek_run.Reads as index-seek-run-reads
+use Rattle.index.proofs.index_supposed.Reads as index-index-supposed-reads
+use Rattle.index.proofs.next_supposed.Reads as index-next-supposed-reads
+use Rattle.index.proofs.is_supposed.Reads as index-is-supposed-reads
 use Rattle.following.proofs.follow.Reads as following-follow-reads
 use Rattle.index.proofs.clause_at.Reads as index-clause-at-reads
 use Rattle.index.proofs.first_match.Reads as index-first-match-reads
@@ -51,8 +53,14 @@ branch-keep κs a r r′ s s′ p q = p ∙ sym q
 pub branch-put-cell : (κs : _) (a : _) (r r′ : _) (s s′ : _) → branch-put-cell-reads.Post κs a r s → branch-put-cell-reads.Post κs a r′ s′ → s .0 .now ≡ s′ .0 .now
 branch-put-cell κs a r r′ s s′ p q = p ∙ sym q
 
-pub index-seek-run : (κs : _) (a : _) (r r′ : _) (s s′ : _) → index-seek-run-reads.Post κs a r s → index-seek-run-reads.Post κs a r′ s′ → r ≡ r′
-index-seek-run κs a r r′ s s′ p q = p ∙ sym q
+pub index-index-supposed : (κs : _) (a : _) (r r′ : _) (s s′ : _) → index-index-supposed-reads.Post κs a r s → index-index-supposed-reads.Post κs a r′ s′ → s .1 .0 .now ≡ s′ .1 .0 .now
+index-index-supposed κs a r r′ s s′ p q = p ∙ sym q
+
+pub index-next-supposed : (κs : _) (a : _) (r r′ : _) (s s′ : _) → index-next-supposed-reads.Post κs a r s → index-next-supposed-reads.Post κs a r′ s′ → r ≡ r′
+index-next-supposed κs a r r′ s s′ p q = p ∙ sym q
+
+pub index-is-supposed : (κs : _) (a : _) (r r′ : _) (s s′ : _) → index-is-supposed-reads.Post κs a r s → index-is-supposed-reads.Post κs a r′ s′ → r ≡ r′
+index-is-supposed κs a r r′ s s′ p q = p ∙ sym q
 
 pub index-first-match : (κs : _) (a : _) (r r′ : _) (s s′ : _) → index-first-match-reads.Post κs a r s → index-first-match-reads.Post κs a r′ s′ → r ≡ r′
 index-first-match κs a r r′ s s′ p q = p ∙ sym q

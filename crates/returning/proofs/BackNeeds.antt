@@ -11,8 +11,8 @@ use Rattle.machine.specs.declared.Tally.{Tally}
 use Rattle.machine.specs.Machine.{Thread, solving}
 use Rattle.words.specs.Frame.{undo}
 use Rattle.words.proofs.StackLaws.{keeps-narrow}
-use Rattle.index.proofs.IndexLaws.{indexed-same}
-use Rattle.branch.specs.Seeking.{OwnReady, OwnIndexed}
+use Rattle.branch.proofs.SeekChain.{all-same}
+use Rattle.branch.specs.Seeking.{OwnReady, AllIndexed}
 use Rattle.branch.specs.Memo.{Memo}
 use Rattle.branch.proofs.MemoLaws.{memo-kept}
 use Rattle.steps.proofs.RunLaws.{none-spent}
@@ -140,12 +140,12 @@ module _ (book ws : List ℕ) (left n : ℕ) where
 
 -- what it asks for
 module _ {book ws : List ℕ} {left : ℕ} where
-  pub can-go-on : {o : Reached} {ws₀ : List ℕ} {r : Regs} {threads : List Thread} → OwnReady book 0 → OwnIndexed book ws₀ → ReachGives book ws₀ ws r left threads o → CanGoOn book ws left o
+  pub can-go-on : {o : Reached} {ws₀ : List ℕ} {r : Regs} {threads : List Thread} → OwnReady book 0 → AllIndexed book ws₀ → ReachGives book ws₀ ws r left threads o → CanGoOn book ws left o
   can-go-on O I (reach-on S) = is-on
   can-go-on O I (reach-end S) = is-end
-  can-go-on O I (reach-clause {threads′ = us} a b L X P) = is-clause {threads = us} a (indexed-same book (ownRun book .first) (ownRun book .count) (O .count-small) (L .index) I) X
+  can-go-on O I (reach-clause {threads′ = us} a b L X P) = is-clause {threads = us} a (all-same book O (L .index) (L .free) I) X
 
-  pub clause-asked : (n : ℕ) (x : Back) (j : ℕ) (o : Reached) → CanGoOn book ws left o → o ≡ Clause n x j → (n ≤ left) × OwnIndexed book ws × ((threads : List Thread) × ToClause book ws j x threads)
+  pub clause-asked : (n : ℕ) (x : Back) (j : ℕ) (o : Reached) → CanGoOn book ws left o → o ≡ Clause n x j → (n ≤ left) × AllIndexed book ws × ((threads : List Thread) × ToClause book ws j x threads)
   clause-asked n x j o (is-clause {x = y} {k = i} {used = m} {threads = us} a I X) e =
       let xe : y ≡ x = cc in
       let ke : i ≡ j = cc in

@@ -7,11 +7,11 @@ use Rattle.machine.specs.declared.Ending.{Ending}
 use Rattle.machine.specs.Machine.{Thread, Branch}
 use Rattle.words.specs.Frame.{Keeps}
 use Rattle.words.proofs.StackLaws.{keeps-narrow, store-same}
-use Rattle.index.proofs.IndexLaws.{indexed-same}
+use Rattle.branch.proofs.SeekChain.{all-same}
 use Rattle.branch.specs.declared.Back.{Back}
 use Rattle.branch.specs.declared.Candidate.{Candidate}
 use Rattle.branch.specs.State.{ownRun}
-use Rattle.branch.specs.Seeking.{OwnReady, OwnIndexed}
+use Rattle.branch.specs.Seeking.{OwnReady, AllIndexed}
 use Rattle.branch.specs.Memo.{MemoOnly}
 use Rattle.branch.proofs.StateLaws.{sound-agree, branch-agree, waiting-agree, rest-agree}
 use Rattle.branch.proofs.MemoLaws.{keeps-back, rest-keeps, sought-keeps, memo-less, tops-only}
@@ -23,8 +23,8 @@ use Rattle.returning.specs.Returns.{Again, ToClause}
 use Rattle.returning.specs.Passing.{FirstIs, NextIs, laterBy}
 
 module _ {book ws ws′ : List ℕ} (O : MemoOnly ws ws′) where
-  pub indexed-only : OwnReady book 0 → OwnIndexed book ws → OwnIndexed book ws′
-  indexed-only R I = indexed-same book (ownRun book .first) (ownRun book .count) (R .count-small) (leaves-only O .index) I
+  pub indexed-only : OwnReady book 0 → AllIndexed book ws → AllIndexed book ws′
+  indexed-only R I = all-same book R (leaves-only O .index) (leaves-only O .free) I
 
   pub again-only : {k : ℕ} {x : Back} {b : Branch} {ts : List Thread} → Again book ws k x b ts → Again book ws′ k x b ts
   again-only G =

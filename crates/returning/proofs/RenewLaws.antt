@@ -6,6 +6,7 @@ use Prim.Native.Nat.{ℕ, suc, _+_, _-_, _*_, _/_, _%_, _≤_, _<_}
 use native.Mathlib.Omega.{arith}
 use lib.ListN.{length}
 use Rattle.book.specs.Records.{field, records}
+use Rattle.book.proofs.Accepted.{Accepted}
 use Rattle.machine.specs.Machine.{Thread, entering, Force, candidates, tryAll}
 use Rattle.words.specs.Words.{recOf, baseOf}
 use Rattle.words.proofs.PackLaws.{rec-pack, base-pack, pack-large}
@@ -18,7 +19,8 @@ use Rattle.branch.specs.State.{IsRest, IsRest.own-rest, IsRest.put-rest, IsClau
 use Rattle.branch.specs.Alternatives.{keepWords}
 use Rattle.branch.specs.Seeking.{IsCandidate, Sought, Sought.sought, Sought.no-more}
 use Rattle.branch.proofs.StateLaws.{rest-agree, waiting-push}
-use Rattle.branch.proofs.KeepLaws.{kept-0, kept-1, kept-2, kept-3, kept-4, kept-5, kept-6, kept-outside, keep-agree}
+use Rattle.branch.proofs.KeepLaws.{kept-0, kept-1, kept-2, kept-3, kept-4, kept-outside, keep-agree, flag-small}
+use Rattle.branch.proofs.FromScoped.{rest-number}
 use Rattle.steps.proofs.LeaveLaws.{leaves-none, leaves-kept}
 use Rattle.returning.specs.Returns.{topsAt, atomOf, ToClause}
 use Rattle.returning.specs.Reentry.{moved, Renewed}
@@ -63,28 +65,36 @@ module _ (book : List ℕ) (ws : List ℕ) (k : ℕ) (x : Back) (threads : List 
   standing = let z : suc (x .index) ≡ x .index + 1 = omega arith in rw (← z) (X .with .clause .1)
 
   -- the numbers that are kept are small
-  abbrev Small : ℕ → Type 0
-  Small q = ((k < 512) × (length ws ≡ 16384)) × ((x .made < 4096) × (x .trail < 4096) × (x .cells < 4096) × (x .programs < 4096) × (x .cell < 4096) × (x .taken < 4096) × (x .call < 4096) × (q < 4096))
+  abbrev Small : ℕ → ℕ → Type 0
+  Small q i =
+      ((k < 512) × (length ws ≡ 16384))
+      × (((x .made < 4096) × (x .trail < 4096) × (x .cells < 4096) × (x .programs < 4096) × (x .cell < 4096) × (x .taken < 4096)) × ((x .supposed < 256) × (x .call < 1024) × (q < 1024) × (i < 2048)))
 
-  keep-small : (q : ℕ) {after : List Force} {i : ℕ} → IsRest book ws (x .made) (x .programs) q i after → Small q
-  keep-small q r = (
+  keep-small : Accepted book → (q i : ℕ) {after : List Force} → IsRest book ws (x .made) (x .programs) q i after → Small q i
+  keep-small A q i r = (
     (kept-below, S .slots .size),
     (
-      omega (arith, S .slots .room),
-      omega (arith, trail-room),
-      omega (arith, S .cells-most),
-      omega (arith, S .programs-most),
-      omega (arith, goals-below (S .cells-some) (X .again .there .goals), S .cells-most),
-      omega (arith, X .with .most),
-      X .with .called,
-      omega (arith, rest-below (S .programs-some) r, S .programs-most),
+      (
+        omega (arith, S .slots .room),
+        omega (arith, trail-room),
+        omega (arith, S .cells-most),
+        omega (arith, S .programs-most),
+        omega (arith, goals-below (S .cells-some) (X .again .there .goals), S .cells-most),
+        omega (arith, X .with .most),
+      ),
+      (
+        rw (X .again .flagged) (flag-small (X .again .supposed)),
+        X .with .called,
+        omega (arith, rest-below (S .programs-some) r, S .programs-most),
+        omega (arith, rest-number A r),
+      ),
     ),
   )
 
   pub renew-drops : candidates (field book (X .a) 1) (field book (X .a) 2) (X .after) ≡ [] → Renewed book ws ws k x threads X k
   unfolding tryAll
   renew-drops e = record
-      { below = keeps-refl 0 (9744 + 7 * k) ws; memo = keeps-refl 13328 13568 ws; leaves = leaves-none ws; most = omega arith; waiting = rw e (X .again .waiting) }
+      { below = keeps-refl 0 (9744 + 5 * k) ws; memo = keeps-refl 13328 13568 ws; leaves = leaves-none ws; most = omega arith; waiting = rw e (X .again .waiting) }
 
   module _ (q i : ℕ) (f : Force) (after : List Force) (C : IsClause book ws (x .made) (x .programs) q i f after) where
     abbrev kk : k < 512
@@ -96,28 +106,27 @@ module _ (book : List ℕ) (ws : List ℕ) (k : ℕ) (x : Back) (threads : List 
     agree : Agree (topsAt x k) ws kept
     agree = keep-agree ws k (moved x q i) kk (S .slots .size) (topsAt x k) refl (S .slots .room) trail-room (S .cells-most) (S .programs-most)
 
-    pub renew-keeps : candidates (field book (X .a) 1) (field book (X .a) 2) (f ∷ after) ≡ f ∷ candidates (field book (X .a) 1) (field book (X .a) 2) after
+    pub renew-keeps : Accepted book → candidates (field book (X .a) 1) (field book (X .a) 2) (f ∷ after) ≡ f ∷ candidates (field book (X .a) 1) (field book (X .a) 2) after
         → candidates (field book (X .a) 1) (field book (X .a) 2) (X .after) ≡ f ∷ candidates (field book (X .a) 1) (field book (X .a) 2) after
         → Renewed book ws kept k x threads X (k + 1)
     unfolding tryAll
-    renew-keeps e d =
+    renew-keeps A e d =
         let W = waiting-push (topsAt x k) ws kept (x .cell) (x .taken) (X .again .supposed) (X .b) (entering (X .b) (atomOf book (X .a) (X .e) (X .program)) f (candidates (field book (X .a) 1) (field book (X .a) 2) after)) agree S
         (record {
-          counts = kept-0 ws k (moved x q i) kk (S .slots .size);
+          counts = rw (← (X .again .flagged)) (kept-0 ws k (moved x q i) kk (S .slots .size));
           lists = kept-1 ws k (moved x q i) kk (S .slots .size);
           branch = kept-2 ws k (moved x q i) kk (S .slots .size);
-          assumed = kept-3 ws k (moved x q i) kk (S .slots .size) ∙ X .again .flagged;
           below = refl;
           few = X .again .few;
         })
         (X .again .there)
-        (other-clause {a = X .a} {e = X .e} {p = x .call} {q = q} {i = i} {program = X .program} {rest = after} {c = f} (kept-4 ws k (moved x q i) kk (S .slots .size) ∙ X .with .atom) (X .with .base) (kept-5 ws k (moved x q i) kk (S .slots .size))
-        (X .with .called) (kept-6 ws k (moved x q i) kk (S .slots .size)) (X .with .kind) (X .with .here) (rest-agree agree (omega arith) (X .with .program-is))
+        (other-clause {a = X .a} {e = X .e} {p = x .call} {q = q} {i = i} {program = X .program} {rest = after} {c = f} (kept-3 ws k (moved x q i) kk (S .slots .size) ∙ X .with .atom) (X .with .base) (kept-4 ws k (moved x q i) kk (S .slots .size))
+        (X .with .called) (omega (arith, rest-number A (C .0))) (X .with .kind) (X .with .here) (rest-agree agree (omega arith) (X .with .program-is))
         (rest-agree agree (omega arith) (C .0), rest-agree agree (omega arith) (C .1)) e (X .with .room) (X .with .most))
         (X .again .waiting) in
         let z : suc k ≡ k + 1 = omega arith in
         record {
-          below = kept-outside ws k (moved x q i) kk (S .slots .size) 0 (9744 + 7 * k) (inr (omega arith));
+          below = kept-outside ws k (moved x q i) kk (S .slots .size) 0 (9744 + 5 * k) (inr (omega arith));
           memo = kept-outside ws k (moved x q i) kk (S .slots .size) 13328 13568 (inl (omega (arith, kk)));
           leaves = leaves-kept ws k (moved x q i) kk (S .slots .size);
           most = omega arith;
@@ -140,17 +149,17 @@ module _ (book : List ℕ) (ws : List ℕ) (k : ℕ) (x : Back) (threads : List 
     pub here : Sought book ws (x .made) (x .programs) (field book (X .a) 1) (field book (X .a) 2) (X .after) o
     here = rw atom-record at (s (X .after) standing)
 
-    pub keep-ready : (q i : ℕ) → o ≡ At q i → Small q
-    keep-ready q i e = go (rw e at here)
+    pub keep-ready : Accepted book → (q i : ℕ) → o ≡ At q i → Small q i
+    keep-ready A q i e = go (rw e at here)
       where
-        go : Sought book ws (x .made) (x .programs) (field book (X .a) 1) (field book (X .a) 2) (X .after) (At q i) → Small q
-        go (sought r y z) = keep-small q (r .0)
+        go : Sought book ws (x .made) (x .programs) (field book (X .a) 1) (field book (X .a) 2) (X .after) (At q i) → Small q i
+        go (sought r y z) = keep-small A q i (r .0)
 
-    pub renewed : (q i : ℕ) (y : Back) (ws′ : List ℕ) → o ≡ At q i → y ≡ moved x q i → ws′ ≡ keepWords ws k y → Renewed book ws ws′ k x threads X (k + 1)
-    renewed q i y ws′ e ye d = rw (d, ye) (go (rw e at here))
+    pub renewed : Accepted book → (q i : ℕ) (y : Back) (ws′ : List ℕ) → o ≡ At q i → y ≡ moved x q i → ws′ ≡ keepWords ws k y → Renewed book ws ws′ k x threads X (k + 1)
+    renewed A q i y ws′ e ye d = rw (d, ye) (go (rw e at here))
       where
         go : Sought book ws (x .made) (x .programs) (field book (X .a) 1) (field book (X .a) 2) (X .after) (At q i) → Renewed book ws (keepWords ws k (moved x q i)) k x threads X (k + 1)
-        go (sought {c = c} {after = after} r y z) = renew-keeps q i c after r y z
+        go (sought {c = c} {after = after} r y z) = renew-keeps q i c after r A y z
 
     pub dropped : o ≡ Nothing → Renewed book ws ws k x threads X k
     dropped e = go (rw e at here)

@@ -14,7 +14,7 @@ use Rattle.words.proofs.FrameLaws.{undo-keeps}
 use Rattle.branch.specs.declared.Back.{Back}
 use Rattle.branch.specs.State.{Tops, Sound, Kept, Alternative, Alternative.other-goal, Alternative.other-clause, Waiting, Waiting.none-waiting, Waiting.one-waiting}
 use Rattle.branch.specs.Alternatives.{backOf}
-use Rattle.branch.proofs.BackLaws.{low, high, Resumed, resume}
+use Rattle.branch.proofs.BackLaws.{low, high, place-index, place-call, place-node, Resumed, resume}
 use Rattle.steps.specs.declared.Regs.{Regs}
 use Rattle.steps.specs.declared.Stepped.the-variants.{Finished}
 use Rattle.steps.proofs.RunLaws.{none-spent}
@@ -104,7 +104,7 @@ module _ (book : List ℕ) (ws : List ℕ) (t : Tops) (k : ℕ) (thread : Thread
   unfolding backOf
   again = record {
     supposed = K .supposed;
-    flagged = Y .holds .assumed;
+    flagged = Y .supposed;
     sound = rw tops-is (Y .sound);
     there = rw (tops-is, cell-is, taken-is) (Y .there);
     waiting = rw tops-is (Y .waiting);
@@ -112,20 +112,21 @@ module _ (book : List ℕ) (ws : List ℕ) (t : Tops) (k : ℕ) (thread : Thread
   }
 
   -- a word of the alternative
-  word : (i : ℕ) → i < 7 → getD now (9744 + 7 * k + i) 0 ≡ getD ws (9744 + 7 * k + i) 0
-  word i h = stays .same (9744 + 7 * k + i) (omega arith) (omega (arith, Y .ready .below))
+  word : (i : ℕ) → i < 5 → getD now (9744 + 5 * k + i) 0 ≡ getD ws (9744 + 5 * k + i) 0
+  word i h = stays .same (9744 + 5 * k + i) (omega arith) (omega (arith, Y .ready .below))
 
   pub returned : Returned book now k x (thread ∷ ts)
   unfolding backOf
   returned = go (Y .alternative)
     where
       go : {u : Thread} → Alternative book now k K (Y .branch) u → Returned book now k x (u ∷ ts)
-      go (other-goal e) = to-goal (sym (word 4 (omega arith)) ∙ e) again
-      go (other-clause {a = a} {e = e} {p = p} {q = q} {i = i} {program = program} {rest = rest} {c = c} aw eb cw pb iw kd gh pr cl fi ro mo) =
+      go (other-goal e) = to-goal (sym (word 3 (omega arith)) ∙ e) again
+      go (other-clause {a = a} {e = e} {p = p} {q = q} {i = i} {program = program} {rest = rest} {c = c} aw eb cw pb ib kd gh pr cl fi ro mo) =
           let m : x .made ≡ K .tops .made = Y .made in
-          let pi : x .call ≡ p = low q p _ pb (sym (word 5 (omega arith)) ∙ cw) in
-          let qi : x .node ≡ q = high q p _ pb (sym (word 5 (omega arith)) ∙ cw) in
-          let ii : x .index ≡ i = sym (word 6 (omega arith)) ∙ iw in
+          let w = sym (word 4 (omega arith)) ∙ cw in
+          let pi : x .call ≡ p = place-call q p i _ ib pb w in
+          let qi : x .node ≡ q = place-node q p i _ ib pb w in
+          let ii : x .index ≡ i = place-index q p i _ ib pb w in
           to-clause (record {
             b = Y .branch;
             ts = ts;
@@ -136,7 +137,7 @@ module _ (book : List ℕ) (ws : List ℕ) (t : Tops) (k : ℕ) (thread : Thread
             after = rest;
             again = again;
             with = record {
-              atom = sym (word 4 (omega arith)) ∙ aw;
+              atom = sym (word 3 (omega arith)) ∙ aw;
               base = eb;
               kind = kd;
               here = rw m gh;

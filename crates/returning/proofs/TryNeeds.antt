@@ -51,7 +51,7 @@ module _ (book : List ℕ) (R : Readable book) (A : Accepted book) (ws : List �
             clause-inside,
             omega (arith, S .slots .room),
             omega (arith, X .with .room, X .with .most),
-            X .with .called,
+            omega (arith, X .with .called),
             omega (arith, goals-below (S .cells-some) (X .again .there .goals), S .cells-most),
             N threads X .below .size ∙ S .slots .size,
           )

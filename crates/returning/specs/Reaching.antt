@@ -3,7 +3,7 @@ use mathlib.Core.List.{List}
 use Prim.Native.Nat.{ℕ, _+_, _-_, _*_, _≤_, _<_}
 use Rattle.machine.specs.Machine.{Thread}
 use Rattle.branch.specs.declared.Back.{Back}
-use Rattle.branch.specs.Seeking.{OwnIndexed}
+use Rattle.branch.specs.Seeking.{AllIndexed}
 use Rattle.branch.specs.Memo.{Memo}
 use Rattle.machine.specs.declared.Ending.{Ending}
 use Rattle.steps.specs.declared.Regs.{Regs}
@@ -29,7 +29,7 @@ ReachContract book ws ws′ r left o = (threads : List Thread) → Stands book w
 pub data CanGoOn (book ws : List ℕ) (left : ℕ) : Reached → Type 0 where
   is-on : {r : Regs} {used : ℕ} → CanGoOn book ws left (ReachedOn used r)
   is-end : {e : Ending} {used : ℕ} → CanGoOn book ws left (ReachedEnd e used)
-  is-clause : {x : Back} {k used : ℕ} {threads : List Thread} → used ≤ left → OwnIndexed book ws → ToClause book ws k x threads → CanGoOn book ws left (Clause used x k)
+  is-clause : {x : Back} {k used : ℕ} {threads : List Thread} → used ≤ left → AllIndexed book ws → ToClause book ws k x threads → CanGoOn book ws left (Clause used x k)
 
 -- the memo where a step that had `left` units has come to
 unfoldable pub MemoReached : List ℕ → List ℕ → ℕ → Reached → Type 0

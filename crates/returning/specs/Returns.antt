@@ -32,7 +32,7 @@ pub record Candidates (book ws : List ℕ) (x : Back) (a e : ℕ) (program : Lis
   pub base : e < 4096
   pub kind : kindAt book a ≡ atomKind
   pub here : GoalHere book (x .made) a e
-  pub called : x .call < 4096
+  pub called : x .call < 1024
   pub program-is : IsProgram book ws (x .made) (x .programs) (x .call) program
   pub clause : IsClause book ws (x .made) (x .programs) (x .node) (x .index) f after
   pub first : candidates (field book a 1) (field book a 2) (f ∷ after) ≡ f ∷ candidates (field book a 1) (field book a 2) after

@@ -9,7 +9,7 @@ ghost use Rattle.book.proofs.Accepted.{Accepted};
 ghost use Rattle.machine.specs.Machine.{Thread};
 ghost use Rattle.words.specs.Readable.{Readable};
 ghost use Rattle.words.specs.Words.{recOf};
-ghost use Rattle.branch.specs.Seeking.{OwnIndexed};
+ghost use Rattle.branch.specs.Seeking.{AllIndexed};
 ghost use Rattle.branch.specs.Memo.{Memo, MemoStays};
 ghost use Rattle.steps.specs.Search.{Stands, unitsOf, MemoStepped};
 ghost use Rattle.returning.specs.Returns.{Leads, ToClause};
@@ -83,7 +83,7 @@ fn at_place(x: Back, q: u32, i: u32) -> Back
 
 // Keeps alternative k for the candidates from `next` on, if there are any: how many alternatives there are now.
 fn renew(book: &[u8], ws: &mut [u32], k: u32, x: Back, next: Candidate) -> u32
-    requires { ⌜ NextIs (now book) (now ws) x next ⌝ }
+    requires { ⌜ Accepted (now book) × NextIs (now book) (now ws) x next ⌝ }
     requires { ⌜ ((threads : List Thread) × ToClause (now book) (now ws) k x threads) ⌝ }
     ensures { λ n. ⌜ ((threads : List Thread) (X : ToClause (now (book .entry)) (now (ws .entry)) k x threads) → Renewed (now (book .entry)) (now (ws .entry)) (now (ws .exit)) k x threads X n) ⌝ }
 {
@@ -223,7 +223,7 @@ fn passes(book: &[u8], ws: &[u32], k: u32, x: Back, w: u32) -> bool
 // The candidate after the next one.
 fn after_next(book: &[u8], ws: &mut [u32], k: u32, x: Back) -> Candidate
     requires { ⌜ Readable (now book) ⌝ }
-    requires { ⌜ Accepted (now book) × OwnIndexed (now book) (now ws) ⌝ }
+    requires { ⌜ Accepted (now book) × AllIndexed (now book) (now ws) ⌝ }
     requires { ⌜ ((threads : List Thread) × ToClause (now book) (now ws) k x threads) ⌝ }
     requires { ⌜ ((left : ℕ) × Memo (now book) (now ws) (x .programs) left) ⌝ }
     ensures { λ o. ⌜ NextIs (now (book .entry)) (now (ws .exit)) x o ⌝ }
@@ -238,7 +238,7 @@ fn after_next(book: &[u8], ws: &mut [u32], k: u32, x: Back) -> Candidate
 // Passes over the candidates that clash at once with the atom: each is entered and fails at its first pair, two units.
 fn pass_over(book: &[u8], ws: &mut [u32], k: u32, x: Back, left: u32) -> Passed
     requires { ⌜ Readable (now book) ⌝ }
-    requires { ⌜ Accepted (now book) × OwnIndexed (now book) (now ws) ⌝ }
+    requires { ⌜ Accepted (now book) × AllIndexed (now book) (now ws) ⌝ }
     requires { ⌜ ((threads : List Thread) × ToClause (now book) (now ws) k x threads) ⌝ }
     requires { ⌜ Memo (now book) (now ws) (x .programs) left ⌝ }
     ensures { λ o. ⌜ ((threads : List Thread) → ToClause (now (book .entry)) (now (ws .entry)) k x threads → PassGives (now (book .entry)) (now (ws .exit)) k x left threads o) ⌝ }
@@ -326,7 +326,7 @@ fn later(used: u32, s: Stepped) -> Stepped
 // Tries the candidates of alternative k, to which the search has just gone back: those that clash at once are passed over, and the next one is entered.
 fn try_all(book: &[u8], ws: &mut [u32], k: u32, x: Back, left: u32) -> Stepped
     requires { ⌜ Readable (now book) ⌝ }
-    requires { ⌜ Accepted (now book) × OwnIndexed (now book) (now ws) ⌝ }
+    requires { ⌜ Accepted (now book) × AllIndexed (now book) (now ws) ⌝ }
     requires { ⌜ ((threads : List Thread) × ToClause (now book) (now ws) k x threads) ⌝ }
     requires { ⌜ Memo (now book) (now ws) (x .programs) left ⌝ }
     ensures { λ o. ⌜ Tries (now (book .entry)) (now (ws .entry)) (now (ws .exit)) k x left o ⌝ }

@@ -30,7 +30,7 @@ use Rattle.answers.proofs.CallerLaws.{Given, Given.given, Given.stopped, gives,
 use Rattle.running.specs.declared.Turned.{Turned}
 use Rattle.running.specs.declared.Turned.the-variants.{On, Over}
 use Rattle.words.proofs.StackLaws.{keeps-narrow}
-use Rattle.index.proofs.IndexLaws.{indexed-same}
+use Rattle.branch.proofs.SeekChain.{all-same}
 use Rattle.branch.specs.State.{ownRun}
 use Rattle.branch.proofs.FromScoped.{own-ready}
 use Rattle.running.specs.Turns.{Taken, requestOf, Midway, ahead, TurnGives, TurnGives.turns-on, TurnGives.turns-over, oneMore, leftBehind}
@@ -154,7 +154,7 @@ module _ (book : List ℕ) (unknowns wanted size budget : ℕ) (ws ws′ out out
         lines = M .lines ++ ls;
         stands = going-back refl (sound-agree A (H .sound)) (waiting-agree A (H .sound) (H .waiting));
         numbers = after-numbers ws ws′ (M .numbers) K;
-        indexed = indexed-same book (ownRun book .first) (ownRun book .count) (own-ready book (T .accepted) .count-small) (keeps-narrow (omega arith) (omega arith) K) (M .indexed);
+        indexed = all-same book (own-ready book (T .accepted)) (keeps-narrow (omega arith) (omega arith) K) (keeps-narrow (omega arith) (omega arith) K) (M .indexed);
         memo = memo-kept (keeps-narrow (omega arith) (omega (arith, H .sound .programs-most)) K) (keeps-narrow (omega arith) (omega arith) K) (omega arith) (omega arith) (M .memo);
         within = omega arith;
         fewer = lt-by (y .answers) wanted (z .answers) za (M .fewer) u;

@@ -14,7 +14,7 @@ use Rattle.machine.specs.Run.{Result, goOn, start, solved}
 use Rattle.machine.specs.Call.{noCounts, filledBuffer, runOf}
 use Rattle.steps.specs.declared.Regs.{Regs}
 use Rattle.steps.specs.Search.{runOut, runOn, Stands}
-use Rattle.branch.specs.Seeking.{OwnIndexed}
+use Rattle.branch.specs.Seeking.{AllIndexed}
 use Rattle.branch.specs.Memo.{Memo}
 use Rattle.answers.specs.Numbers.{NoNumbers}
 use Rattle.running.specs.declared.Turned.{Turned}
@@ -27,7 +27,7 @@ unfolding runOf solved questionOf runOn goOn runOut start
 whole-run book unknowns wanted budget size e = rw e refl
 
 pub midway-start : (book : List ℕ) (unknowns wanted budget : ℕ) (ws out : List ℕ) (r : Regs) (y : Tally) → y ≡ noCounts → Taken book unknowns wanted (length out) → Stands book ws r (start (questionOf book) .thread ∷ [])
-    → NoNumbers ws × OwnIndexed book ws × Memo book ws (r .programs) budget → out ≡ replicate (length out) 0 → Midway book unknowns wanted (length out) budget ws out r y 0 (runOf book budget wanted (length out))
+    → NoNumbers ws × AllIndexed book ws × Memo book ws (r .programs) budget → out ≡ replicate (length out) 0 → Midway book unknowns wanted (length out) budget ws out r y 0 (runOf book budget wanted (length out))
 unfolding filledBuffer bytesOf
 midway-start book unknowns wanted budget ws out r y e T S N z = rw e (record {
   threads = start (questionOf book) .thread ∷ [];

@@ -22,7 +22,7 @@ use Rattle.steps.specs.Search.{runOn, spentUnits, unitsOf, StepGives, StepGives
 use Rattle.steps.proofs.RunLaws.{none-spent, units-most, unit-none}
 use Rattle.running.specs.declared.Turned.{Turned}
 use Rattle.running.specs.declared.Turned.the-variants.{Over}
-use Rattle.index.proofs.IndexLaws.{indexed-same}
+use Rattle.branch.proofs.SeekChain.{all-same}
 use Rattle.branch.specs.State.{ownRun}
 use Rattle.branch.proofs.FromScoped.{own-ready}
 use Rattle.running.specs.Turns.{answerDue, Taken, requestOf, Midway, TurnGives, TurnGives.turns-on, TurnGives.turns-over, turnBy}
@@ -78,7 +78,7 @@ module _ (book : List ℕ) (unknowns wanted size budget : ℕ) (ws out : List �
         lines = M .lines;
         stands = S;
         numbers = λ v l. k .numbers .same (13568 + v) (omega arith) (omega arith) ∙ M .numbers v l;
-        indexed = indexed-same book (ownRun book .first) (ownRun book .count) (own-ready book (T .accepted) .count-small) (k .index) (M .indexed);
+        indexed = all-same book (own-ready book (T .accepted)) (k .index) (k .free) (M .indexed);
         memo = rw z at m;
         within = omega arith;
         fewer = M .fewer;

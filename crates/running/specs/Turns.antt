@@ -17,7 +17,7 @@ use Rattle.steps.specs.declared.Regs.{Regs}
 use Rattle.steps.specs.declared.Stepped.{Stepped}
 use Rattle.steps.specs.declared.Stepped.the-variants.{Onward, Finished}
 use Rattle.steps.specs.Search.{runOn, spentUnits, Stands, phase}
-use Rattle.branch.specs.Seeking.{OwnIndexed}
+use Rattle.branch.specs.Seeking.{AllIndexed}
 use Rattle.branch.specs.Memo.{Memo}
 use Rattle.answers.specs.Numbers.{NoNumbers}
 use Rattle.running.specs.declared.Turned.{Turned}
@@ -42,7 +42,7 @@ pub record Midway (book : List ℕ) (unknowns wanted size budget : ℕ) (ws out 
   pub lines : List Line
   pub stands : Stands book ws r threads
   pub numbers : NoNumbers ws
-  pub indexed : OwnIndexed book ws
+  pub indexed : AllIndexed book ws
   pub memo : Memo book ws (r .programs) (budget - y .units)
   pub within : y .units ≤ budget
   pub fewer : y .answers < wanted

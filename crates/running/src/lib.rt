@@ -8,7 +8,7 @@ ghost use Rattle.book.specs.Decode.{questionOf};
 ghost use Rattle.machine.specs.Run.{Result, start as startOf};
 ghost use Rattle.machine.specs.Call.{noCounts, runOf, filledBuffer};
 ghost use Rattle.steps.specs.Search.{Stands, spentUnits, unitsOf};
-ghost use Rattle.branch.specs.Seeking.{OwnIndexed};
+ghost use Rattle.branch.specs.Seeking.{AllIndexed};
 ghost use Rattle.branch.specs.Memo.{Memo};
 ghost use Rattle.answers.specs.Numbers.{NoNumbers};
 ghost use Rattle.book.proofs.Accepted.{Accepted};
@@ -138,7 +138,7 @@ fn answer_due(r: Regs) -> bool
 
 // Goes back; or, with a branch in hand, takes its next goal, if the budget has a unit left.
 fn reach(book: &[u8], ws: &mut [u32], r: Regs, left: u32) -> Reached
-    requires { ⌜ Accepted (now book) × OwnIndexed (now book) (now ws) ⌝ }
+    requires { ⌜ Accepted (now book) × AllIndexed (now book) (now ws) ⌝ }
     requires { ⌜ answerDue r ≡ false ⌝ }
     requires { ⌜ ((threads : List Thread) × Stands (now book) (now ws) r threads) ⌝ }
     requires { ⌜ Memo (now book) (now ws) (r .programs) left ⌝ }
@@ -197,7 +197,7 @@ pub fn run(
 ) -> Ran
     requires { ⌜ Taken (now book) unknowns wanted (length (now out)) ⌝ }
     requires { ⌜ Stands (now book) (now ws) start (startOf (questionOf (now book)) .thread ∷ []) ⌝ }
-    requires { ⌜ NoNumbers (now ws) × OwnIndexed (now book) (now ws) × Memo (now book) (now ws) (start .programs) budget ⌝ }
+    requires { ⌜ NoNumbers (now ws) × AllIndexed (now book) (now ws) × Memo (now book) (now ws) (start .programs) budget ⌝ }
     requires { ⌜ tally ≡ noCounts ⌝ }
     requires { ⌜ now out ≡ replicate (length (now out)) 0 ⌝ }
     ensures { λ x. ⌜ (x .ending ≡ runOf (now (book .entry)) budget wanted (length (now (out .entry))) .ending)

@@ -22,8 +22,11 @@ use Rattle.machine.specs.declared.Tally.{Tally}
 use Rattle.words.proofs.StackLaws.{keeps-narrow}
 use Rattle.index.specs.Runs.{ClauseRun}
 use Rattle.index.specs.Index.{IndexedFrom}
-use Rattle.index.proofs.IndexLaws.{made-all, indexed-same}
-use Rattle.branch.specs.Seeking.{OwnIndexed}
+use Rattle.index.proofs.IndexLaws.{made-all}
+use Rattle.index.specs.Supposed.{supposedWords}
+use Rattle.index.proofs.SupposedLaws.{supposed-all, supposed-length, supposed-own, supposed-keeps}
+use Rattle.branch.proofs.SeekChain.{all-same}
+use Rattle.branch.specs.Seeking.{AllIndexed}
 use Rattle.branch.specs.Memo.{Memo}
 use Rattle.branch.proofs.FromScoped.{own-ready}
 use Rattle.branch.proofs.MemoLaws.{memo-none}
@@ -55,7 +58,7 @@ made-is : (book : List ℕ) → startRegs book .made ≡ field book (lastRecord 
 unfolding startRegs
 made-is book = refl
 
-module _ (book : List ℕ) (A : Accepted book) (ws : List ℕ) (size : length ws ≡ 16384) (z : (k : ℕ) → k < 64 → getD ws k 0 ≡ 0) (numbers : NoNumbers ws) (I : OwnIndexed book ws) where
+module _ (book : List ℕ) (A : Accepted book) (ws : List ℕ) (size : length ws ≡ 16384) (z : (k : ℕ) → k < 64 → getD ws k 0 ≡ 0) (numbers : NoNumbers ws) (I : AllIndexed book ws) where
   abbrev last : ℕ
   last = lastRecord book
 
@@ -88,9 +91,13 @@ module _ (book : List ℕ) (A : Accepted book) (ws : List ℕ) (size : length ws
   unfolding startWords startRegs
   start-memo Z = memo-none (λ e b. put-outside 13328 13568 1 (termWord goal 0) 0 0 ws (inl (omega arith)) .same (13328 + 3 * e) (omega arith) (omega arith) ∙ Z (3 * e) (omega arith))
 
-  -- the index is not touched
-  pub start-indexed : OwnIndexed book (startWords book ws)
-  start-indexed = indexed-same book (ownRun book .first) (ownRun book .count) (own-ready book A .count-small) (keeps-narrow (omega arith) (omega arith) below) I
+  -- the indexes are not touched
+  start-free : Keeps 12304 13328 ws (startWords book ws)
+  unfolding startWords
+  start-free = put-outside 12304 13328 1 (termWord goal 0) 0 0 ws (inl (omega arith))
+
+  pub start-indexed : AllIndexed book (startWords book ws)
+  start-indexed = all-same book (own-ready book A) (keeps-narrow (omega arith) (omega arith) below) start-free I
 
   slot-zero : (k : ℕ) → k < made → getD (startWords book ws) k 0 ≡ 0
   slot-zero k l = let m = made-few in below .same k (omega arith) (omega arith) ∙ z k (omega arith)
@@ -174,24 +181,36 @@ module _ (book : List ℕ) (A : Accepted book) where
   own-indexed first n ws ws′ a b I = rw (a, b) at I
 
 -- WHAT THE RUN ASKS FOR
-module _ (book : List ℕ) (wanted budget : ℕ) (ws ws₁ ws₂ out : List ℕ) (r : Regs) (so : Tally) (R : Ready book ws out wanted budget so)
-    (I : IndexedFrom book (ownRun book .first) (ownRun book .count) 0 ws ws₁) (e : r ≡ startRegs book) (w : ws₂ ≡ startWords book ws₁) where
-  size-here : length ws₁ ≡ 16384
-  size-here = I .below .size ∙ R .size
+module _ (book : List ℕ) (wanted budget : ℕ) (ws ws₁ ws₂ ws₃ out : List ℕ) (r : Regs) (so : Tally) (R : Ready book ws out wanted budget so)
+    (I : IndexedFrom book (ownRun book .first) (ownRun book .count) 0 ws ws₁) (S : ws₂ ≡ supposedWords book (records book) ws₁) (e : r ≡ startRegs book) (w : ws₃ ≡ startWords book ws₂) where
+  most : ownRun book .count ≤ 1024
+  most = own-ready book (R .accepted) .count-small
 
-  open-here : (k : ℕ) → k < 64 → getD ws₁ k 0 ≡ 0
-  open-here k l = I .below .same k (omega arith) (omega arith) ∙ R .open-slots k l
+  size-own : length ws₁ ≡ 16384
+  size-own = I .below .size ∙ R .size
 
-  numbers-here : NoNumbers ws₁
-  numbers-here v l = I .above .same (13568 + v) (omega (arith, own-ready book (R .accepted) .count-small)) (omega arith) ∙ R .numbers v l
+  size-here : length ws₂ ≡ 16384
+  size-here = rw S (supposed-length book (records book) ws₁) ∙ size-own
 
-  memo-here : (k : ℕ) → k < 240 → getD ws₁ (13328 + k) 0 ≡ 0
-  memo-here k l = I .above .same (13328 + k) (omega (arith, own-ready book (R .accepted) .count-small)) (omega arith) ∙ R .memo k l
+  open-here : (k : ℕ) → k < 64 → getD ws₂ k 0 ≡ 0
+  open-here k l = rw S (supposed-keeps book (records book) 0 4096 ws₁ (inl (omega arith)) .same k (omega arith) (omega arith)) ∙ I .below .same k (omega arith) (omega arith) ∙ R .open-slots k l
 
-  indexed-here : OwnIndexed book ws₁
-  indexed-here = made-all book (ownRun book .first) (ownRun book .count) ws ws₁ I
+  above-here : (k : ℕ) → 13328 ≤ k → k < 16384 → getD ws₂ k 0 ≡ getD ws k 0
+  above-here k a b = rw S (supposed-keeps book (records book) 13328 16384 ws₁ (inr (inr (omega arith))) .same k a b) ∙ I .above .same k (omega (arith, most)) b
 
-  pub run-ready : Taken book (r .made) wanted (length out) × (Stands book ws₂ r (start (questionOf book) .thread ∷ []) × ((NoNumbers ws₂ × OwnIndexed book ws₂ × Memo book ws₂ (r .programs) budget) × ((so ≡ noCounts) × (out ≡ replicate (length out) 0))))
+  numbers-here : NoNumbers ws₂
+  numbers-here v l = above-here (13568 + v) (omega arith) (omega arith) ∙ R .numbers v l
+
+  memo-here : (k : ℕ) → k < 240 → getD ws₂ (13328 + k) 0 ≡ 0
+  memo-here k l = above-here (13328 + k) (omega arith) (omega arith) ∙ R .memo k l
+
+  indexed-here : AllIndexed book ws₂
+  indexed-here = rw S (record {
+    own = supposed-own book (ownRun book .first) (ownRun book .count) (records book) ws₁ size-own most (made-all book (ownRun book .first) (ownRun book .count) ws ws₁ most I);
+    supposed = supposed-all book (R .accepted) ws₁ size-own;
+  })
+
+  pub run-ready : Taken book (r .made) wanted (length out) × (Stands book ws₃ r (start (questionOf book) .thread ∷ []) × ((NoNumbers ws₃ × AllIndexed book ws₃ × Memo book ws₃ (r .programs) budget) × ((so ≡ noCounts) × (out ≡ replicate (length out) 0))))
   run-ready = (
     record {
       accepted = R .accepted;
@@ -201,12 +220,12 @@ module _ (book : List ℕ) (wanted budget : ℕ) (ws ws₁ ws₂ out : List ℕ)
       size-most = R .room;
     },
     (
-      rw (w, e) (stands-start book (R .accepted) ws₁ size-here open-here numbers-here indexed-here),
+      rw (w, e) (stands-start book (R .accepted) ws₂ size-here open-here numbers-here indexed-here),
       (
         (
-          rw w (start-numbers book (R .accepted) ws₁ size-here open-here numbers-here indexed-here),
-          rw w (start-indexed book (R .accepted) ws₁ size-here open-here numbers-here indexed-here),
-          rw (w, e) (start-memo book (R .accepted) ws₁ size-here open-here numbers-here indexed-here memo-here),
+          rw w (start-numbers book (R .accepted) ws₂ size-here open-here numbers-here indexed-here),
+          rw w (start-indexed book (R .accepted) ws₂ size-here open-here numbers-here indexed-here),
+          rw (w, e) (start-memo book (R .accepted) ws₂ size-here open-here numbers-here indexed-here memo-here),
         ),
         (R .fresh, R .blank),
       ),

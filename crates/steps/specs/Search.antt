@@ -39,9 +39,10 @@ pub data Stands (book ws : List ℕ) (r : Regs) : List Thread → Type 0 where
       → IsBranch book ws (topsOf r) (r .cell) (r .taken) (r .supposed) b → Waiting book ws (topsOf r) threads → Stands book ws r (solving b ∷ threads)
   going-back : {threads : List Thread} → r .solving ≡ false → Sound book ws (topsOf r) → Waiting book ws (topsOf r) threads → Stands book ws r threads
 
--- what a step leaves alone: the index of the question's own run, and the words in which an answer's variables are numbered
+-- what a step leaves alone: the index of the question's own run, the words between the alternatives and the memo, and those in which an answer's variables are numbered
 pub record Leaves (ws ws′ : List ℕ) : Type 0 where
   pub index : Keeps 4096 6144 ws ws′
+  pub free : Keeps 12304 13328 ws ws′
   pub numbers : Keeps 13568 15616 ws ws′
 
 -- 1 while going back, 0 with a branch in hand: a step without a unit can only go from the first to the second, so the search ends

@@ -22,7 +22,7 @@ use Rattle.branch.specs.Alternatives.{keepWords}
 use Rattle.branch.specs.Memo.{markOf}
 use Rattle.branch.proofs.StateLaws.{rest-agree, rest-more, goals-more, goals-push, branch-agree, sound-agree, waiting-agree, waiting-raised, waiting-push}
 use Rattle.branch.proofs.TakeLaws.{cell-agree, cell-word}
-use Rattle.branch.proofs.KeepLaws.{keep-agree, kept-0, kept-1, kept-2, kept-3, kept-4}
+use Rattle.branch.proofs.KeepLaws.{keep-agree, kept-0, kept-1, kept-2, kept-3}
 use Rattle.steps.specs.Search.{Leaves}
 use Rattle.taking.specs.Takes.{putProgram}
 
@@ -123,7 +123,11 @@ put-program-outside lo hi p w q mark ws (inr h) =
     (keeps-set lo hi (set (set ws (8200 + 3 * p) w) (8200 + 3 * p + 1) q) (8200 + 3 * p + 2) mark (inr (omega arith))))
 
 pub leaves-program : (p w q mark : ℕ) (ws : List ℕ) → p < 514 → Leaves ws (putProgram p w q mark ws)
-leaves-program p w q mark ws h = record { index = put-program-outside 4096 6144 p w q mark ws (inr (omega arith)); numbers = put-program-outside 13568 15616 p w q mark ws (inl (omega arith)) }
+leaves-program p w q mark ws h = record {
+  index = put-program-outside 4096 6144 p w q mark ws (inr (omega arith));
+  free = put-program-outside 12304 13328 p w q mark ws (inl (omega arith));
+  numbers = put-program-outside 13568 15616 p w q mark ws (inl (omega arith));
+}
 
 -- and its third word is its mark
 pub program-mark : (p w q mark : ℕ) (ws : List ℕ) → 8200 + 3 * p + 2 < length ws → markOf (putProgram p w q mark ws) p ≡ mark
@@ -148,7 +152,7 @@ module _ {book ws : List ℕ} {t : Tops} {q n : ℕ} {s : Bool} {y : Branch} {th
     trail = program-outside 2048 (2048 + t .trail) (inr (omega (arith, trail-room H)));
     cells = program-outside 6144 (6144 + 2 * t .cells) (inr (omega (arith, H .sound .cells-most)));
     programs = program-outside 8200 (8200 + 3 * t .programs) (inr (omega arith));
-    alternatives = program-outside 9744 (9744 + 7 * t .alternatives) (inl (omega arith));
+    alternatives = program-outside 9744 (9744 + 5 * t .alternatives) (inl (omega arith));
   }
 
   pub program-hand : Hand book program-put (raised t (t .cells) (t .programs + 1)) q n s y threads
@@ -215,9 +219,8 @@ module _ {book ws : List ℕ} {t : Tops} {c n : ℕ} {s : Bool} {y : Branch} {th
               counts = kept-0 ws (t .alternatives) kept k size;
               lists = kept-1 ws (t .alternatives) kept k size;
               branch = kept-2 ws (t .alternatives) kept k size;
-              assumed = kept-3 ws (t .alternatives) kept k size;
               below = refl;
               few = few;
             })
-            (H .branch) (other-goal (kept-4 ws (t .alternatives) kept k size)) (H .waiting));
+            (H .branch) (other-goal (kept-3 ws (t .alternatives) kept k size)) (H .waiting));
       }

@@ -7,7 +7,7 @@ ghost use Rattle.words.specs.Readable.{Readable};
 ghost use Rattle.book.specs.Records.{records};
 ghost use Rattle.book.proofs.Accepted.{Accepted, Formed};
 ghost use Rattle.branch.specs.State.{flag};
-ghost use Rattle.branch.specs.Seeking.{OwnReady, OwnIndexed, Standing};
+ghost use Rattle.branch.specs.Seeking.{OwnReady, AllIndexed, Standing};
 ghost use Rattle.branch.specs.Memo.{Memo, MemoStays};
 ghost use Rattle.machine.specs.Machine.{Thread};
 ghost use mathlib.Core.List.{List};
@@ -203,7 +203,7 @@ fn most_rules(taken: u32, left: u32) -> u32
 // Follows plain rules from the goal of cell x, if its program is the question's own.
 fn plain_ahead(book: &[u8], ws: &[u32], r: Regs, x: Cell, left: u32) -> Followed
     requires { ⌜ Readable (now book) ⌝ }
-    requires { ⌜ Formed (now book) × OwnReady (now book) 0 × OwnIndexed (now book) (now ws) ⌝ }
+    requires { ⌜ Formed (now book) × OwnReady (now book) 0 × AllIndexed (now book) (now ws) ⌝ }
     requires { ⌜ x .goal < records (now book) ⌝ }
     requires { ⌜ Room (now ws) r x ⌝ }
     ensures { λ p. ⌜ (0 < p .rules → PlainAhead (now (book .entry)) r x left p) ⌝ }
@@ -242,7 +242,7 @@ fn take_plain(ws: &mut [u32], r: Regs, x: Cell, p: Followed) -> Regs
 // Takes an atom: its first candidate is tried next; with none, go back.
 fn take_atom(book: &[u8], ws: &mut [u32], r: Regs, x: Cell) -> Reached
     requires { ⌜ Readable (now book) ⌝ }
-    requires { ⌜ Formed (now book) × OwnReady (now book) 0 × OwnIndexed (now book) (now ws) ⌝ }
+    requires { ⌜ Formed (now book) × OwnReady (now book) 0 × AllIndexed (now book) (now ws) ⌝ }
     requires { ⌜ Standing (now book) (now ws) (r .made) (r .programs) (x .program) 0 ⌝ }
     requires { ⌜ x .goal < records (now book) ⌝ }
     requires { ⌜ Room (now ws) r x ⌝ }
@@ -261,7 +261,7 @@ fn take_atom(book: &[u8], ws: &mut [u32], r: Regs, x: Cell) -> Reached
 // Takes the first goal of the branch in hand.
 pub fn take(book: &[u8], ws: &mut [u32], r: Regs, left: u32) -> Reached
     requires { ⌜ Readable (now book) ⌝ }
-    requires { ⌜ Accepted (now book) × OwnReady (now book) 0 × OwnIndexed (now book) (now ws) ⌝ }
+    requires { ⌜ Accepted (now book) × OwnReady (now book) 0 × AllIndexed (now book) (now ws) ⌝ }
     requires { ⌜ (r .solving ≡ true) × (0 < r .cell) × (0 < left) ⌝ }
     requires { ⌜ ((threads : List Thread) × Stands (now book) (now ws) r threads) ⌝ }
     requires { ⌜ Memo (now book) (now ws) (r .programs) left ⌝ }

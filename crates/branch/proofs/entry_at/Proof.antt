@@ -13,11 +13,14 @@ add-result c = search needs
 add-result-2 : tie.Need-add-result-2
 add-result-2 c = search needs
 
+add-result-3 : tie.Need-add-result-3
+add-result-3 c = search needs
+
 mul-result : tie.Need-mul-result
 mul-result c = search needs
 
-add-result-3 : tie.Need-add-result-3
-add-result-3 c = search needs
+add-result-4 : tie.Need-add-result-4
+add-result-4 c = search needs
 
 cast-result : tie.Need-cast-result
 cast-result c = search needs
@@ -27,4 +30,4 @@ returns c = entry-here _ _ _ (omega (arith, c .pre))
 
 pub entry-at-spec : {M : Type 1} → statement M
 entry-at-spec =
-    tie.close (tie.spec add-result add-result-2 mul-result add-result-3 cast-result returns)
+    tie.close (tie.spec add-result add-result-2 add-result-3 mul-result add-result-4 cast-result returns)

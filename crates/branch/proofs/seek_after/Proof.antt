@@ -1,13 +1,13 @@
 use native.Mathlib.Omega.{arith}
 use borrow.Author.Needs.{needs}
+use Prim.Native.Nat.{_+_, _-_}
 use mathlib.Core.Path.{_≡_, refl, sym, _∙_, ap}
 use Rattle.branch.proofs.seek_after.Statement.{statement}
 use Rattle.branch.proofs.seek_after.Tie as tie
 use Rattle.branch.proofs.seek_after.Reads as reads
 use Rattle.branch.proofs.seek_after.Lts as lts
 use Rattle.words.proofs.StackLaws.{keeps-narrow}
-use Rattle.index.proofs.IndexLaws.{indexed-same}
-use Rattle.branch.proofs.SeekChain.{own-matches, own-sought, candidate-put, put-at}
+use Rattle.branch.proofs.SeekChain.{own-matches, own-sought, candidate-put, put-at, put-matches, all-same}
 use Rattle.branch.proofs.MemoLaws.{stays-none, remembers-only, remembers-stay}
 use Rattle.branch.proofs.own_first.Reads as own-first-reads
 use Rattle.branch.proofs.known.Reads as known-reads
@@ -47,7 +47,7 @@ add-seek-put : tie.Need-add-seek-put
 add-seek-put c = let p = c .before .before .before .before .before .before .before .pre in let y = c .before .before .before .before .if1 .left in omega (arith, candidate-put _ (p .0) (p .1 .0 .0) _ _ _ _ _ _ _ (omega arith) (p .1 .1 .0) .0)
 
 seek-put-requires : tie.Need-seek-put-requires
-seek-put-requires c κs = let p = c .before .before .before .before .before .before .before .pre in let y = c .before .before .before .before .if1 .left in let C = candidate-put _ (p .0) (p .1 .0 .0) _ _ _ _ _ _ _ (omega arith) (p .1 .1 .0) in (p .0, (p .1 .0 .0, (C .1, ((p .1 .1 .1 .0 .0, p .1 .1 .1 .0 .1, (λ e. absurd (y e)), p .1 .1 .1 .0 .2, p .1 .1 .1 .0 .3), p .1 .1 .1 .1))))
+seek-put-requires c κs = let p = c .before .before .before .before .before .before .before .pre in let y = c .before .before .before .before .if1 .left in let C = candidate-put _ (p .0) (p .1 .0 .0) _ _ _ _ _ _ _ (omega arith) (p .1 .1 .0) in (p .0, ((p .1 .0 .0, p .1 .0 .2), ((C .1, λ l. let z : c .before .before .before .before .before .before .before .args .i + 1 - 1 ≡ c .before .before .before .before .before .before .before .args .i = omega arith in rw z (put-matches _ (p .0) (p .1 .0 .0) _ _ _ _ _ _ _ (omega arith) (p .1 .1 .0))), ((p .1 .1 .1 .0 .0, p .1 .1 .1 .0 .1, (λ e. absurd (y e)), p .1 .1 .1 .0 .2, p .1 .1 .1 .0 .3), p .1 .1 .1 .1))))
 
 add-remember : tie.Need-add-remember
 add-remember c = let p = c .before .before .before .before .before .before .before .before .before .pre in let y = c .before .before .before .before .before .before .if1 .left in omega (arith, candidate-put _ (p .0) (p .1 .0 .0) _ _ _ _ _ _ _ (omega arith) (p .1 .1 .0) .0)
@@ -58,7 +58,7 @@ remember-requires c κs = let p = c .before .before .before .before .before .bef
 found-requires-2 : tie.Need-found-requires-2
 found-requires-2 c κs = let p = c .before .before .before .before .before .before .before .before .before .before .before .before .before .pre in
     let M = remembers-only _ _ _ _ _ _ (p .1 .1 .1 .0 .0) in
-    (p .0, rw (c .before .before .before .remember .ensures) ((p .1 .0 .0, p .1 .0 .1, indexed-same _ _ _ (p .1 .0 .1 .count-small) (keeps-narrow (omega arith) (omega arith) (M .below)) (p .1 .0 .2)), (M .below .size ∙ p .1 .1 .1 .0 .0, p .1 .1 .1 .0 .2, p .1 .1 .1 .0 .3)))
+    (p .0, rw (c .before .before .before .remember .ensures) ((p .1 .0 .0, p .1 .0 .1, all-same _ (p .1 .0 .1) (keeps-narrow (omega arith) (omega arith) (M .below)) (keeps-narrow (omega arith) (omega arith) (M .below)) (p .1 .0 .2)), (M .below .size ∙ p .1 .1 .1 .0 .0, p .1 .1 .1 .0 .2, p .1 .1 .1 .0 .3)))
 
 same-length-3 : tie.Need-same-length-3
 same-length-3 c = search needs

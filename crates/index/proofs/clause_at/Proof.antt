@@ -25,7 +25,7 @@ shared-slice-read-w c = search needs
 
 -- src/lib.rt:131:9
 returns : tie.Need-returns
-returns c = let p = c .before .before .before .before .pre in first-record _ _ _ _ (p .1 .1 .1) (p .1 .1 .0 .2) _ (omega arith) _ (p .1 .1 .0 .0) (c .if1 .taken)
+returns c = let p = c .before .before .before .before .pre in first-record _ _ _ _ (p .1 .1 .1) _ (omega arith) _ (p .1 .1 .0 .0) (c .if1 .taken)
 
 -- src/lib.rt:133:24
 add-field : tie.Need-add-field

@@ -14,7 +14,7 @@ use Rattle.index.proofs.head_matches.Reads as head-matches-reads
 use Rattle.words.proofs.field.Reads as field-reads
 
 abbrev Inv-loop : tie.InvT-loop
-Inv-loop book ws first n j f m i₀ i = InBucket book first n (headBucket f m) i × (nextMatch book f m first i (n - i) ≡ nextMatch book f m first j (n - j))
+Inv-loop book ws first n j f m i₀ i = InBucket headBucket book first n (headBucket f m) i × (nextMatch book f m first i (n - i) ≡ nextMatch book f m first j (n - j))
 
 abbrev μ-loop : tie.MeasureT-loop
 μ-loop book ws first n j f m i₀ i = n - i

@@ -18,7 +18,7 @@ at-place-requires c κs = search needs
 
 -- src/lib.rt:91:13
 keep-requires : tie.Need-keep-requires
-keep-requires c κs = let p = c .before .before .before .before .before .before .before .pre in let z = keep-ready _ _ _ _ _ (p .1 .1) _ (p .0) _ _ (c .before .before .before .next .given .1) in rw (c .at-place .ensures) z
+keep-requires c κs = let p = c .before .before .before .before .before .before .before .pre in let z = keep-ready _ _ _ _ _ (p .1 .1) _ (p .0 .1) (p .0 .0) _ _ (c .before .before .before .next .given .1) in rw (c .at-place .ensures) z
 
 -- src/lib.rt:92:13
 add-result : tie.Need-add-result
@@ -34,11 +34,11 @@ same-length c = search needs
 
 -- src/lib.rt:84:1
 returns : tie.Need-returns
-returns c = λ threads X. renewed _ _ _ _ _ X _ (c .before .before .before .before .before .before .before .before .before .before .pre .0) _ _ _ _ (c .before .before .before .before .before .before .next .given .1) (c .before .before .before .at-place .ensures) (c .before .before .keep .ensures)
+returns c = λ threads X. renewed _ _ _ _ _ X _ (c .before .before .before .before .before .before .before .before .before .before .pre .0 .1) (c .before .before .before .before .before .before .before .before .before .before .pre .0 .0) _ _ _ _ (c .before .before .before .before .before .before .next .given .1) (c .before .before .before .at-place .ensures) (c .before .before .keep .ensures)
 
 -- src/lib.rt:84:1
 returns-2 : tie.Need-returns-2
-returns-2 c = λ threads X. dropped _ _ _ _ _ X _ (c .before .before .before .before .pre .0) (c .enum-told .given .1)
+returns-2 c = λ threads X. dropped _ _ _ _ _ X _ (c .before .before .before .before .pre .0 .1) (c .enum-told .given .1)
 
 pub renew-spec : {M : Type 1} → statement M
 renew-spec =

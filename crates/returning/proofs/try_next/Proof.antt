@@ -38,7 +38,7 @@ returns c = ((λ r threads h X. let p = c .before .before .before .before .befor
 
 -- src/lib.rt:171:9
 renew-requires : tie.Need-renew-requires
-renew-requires c κs = let p = c .before .before .before .before .before .before .before .before .pre in (p .1 .0 .1, p .1 .1 .1 .0)
+renew-requires c κs = let p = c .before .before .before .before .before .before .before .before .pre in (p .1 .0, p .1 .1 .1 .0)
 
 -- src/lib.rt:172:9
 put-body-requires : tie.Need-put-body-requires

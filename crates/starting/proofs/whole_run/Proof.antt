@@ -1,40 +1,40 @@
 use mathlib.Core.Path.{_≡_, refl, sym, _∙_, ap}
+use borrow.Author.Needs.{needs}
+use Rattle.words.proofs.FromAccepted.{readable}
+use Rattle.index.proofs.SupposedLaws.{supposed-length}
 use Rattle.starting.specs.Start.{Ready}
 use Rattle.starting.proofs.StartLaws.{run-ready}
-use borrow.Author.Needs.{needs}
 use Rattle.starting.proofs.whole_run.Statement.{statement}
 use Rattle.starting.proofs.whole_run.Tie as tie
 use Rattle.starting.proofs.whole_run.Reads as reads
 use Rattle.starting.proofs.whole_run.Lts as lts
+use Rattle.index.proofs.index_supposed.Reads as index-supposed-reads
 use Rattle.running.proofs.run.Reads as run-reads
 use Rattle.starting.proofs.index_own.Reads as index-own-reads
 use Rattle.starting.proofs.set_up.Reads as set-up-reads
 
--- src/lib.rt:60:5
 index-own-requires : tie.Need-index-own-requires
 index-own-requires c κs = let p = c .before .before .before .before .pre in (p .accepted, p .size)
 
--- src/lib.rt:61:9
+index-supposed-requires : tie.Need-index-supposed-requires
+index-supposed-requires c κs = let p = c .before .before .before .before .before .before .before .before .pre in (readable _ (p .accepted), (p .accepted .formed, c .before .before .before .index-own .ensures .below .size ∙ p .size))
+
 set-up-requires : tie.Need-set-up-requires
-set-up-requires c κs = let p = c .before .before .before .before .before .before .before .before .pre in (p .accepted, c .before .before .before .index-own .ensures .below .size ∙ p .size)
+set-up-requires c κs = let p = c .before .before .before .before .before .before .before .before .before .before .before .before .pre in (p .accepted, rw (c .before .before .before .index-supposed .ensures) (supposed-length _ _ _) ∙ c .before .before .before .before .before .before .before .index-own .ensures .below .size ∙ p .size)
 
--- src/lib.rt:62:5
 run-requires : tie.Need-run-requires
-run-requires c κs = run-ready _ _ _ _ _ _ _ _ _ (c .before .before .before .before .before .before .before .before .before .before .before .before .before .pre) (c .before .before .before .before .before .before .before .before .index-own .ensures) (c .before .before .before .before .set-up .ensures .0) (c .before .before .before .before .set-up .ensures .1)
+run-requires c κs = run-ready _ _ _ _ _ _ _ _ _ _ (c .before .before .before .before .before .before .before .before .before .before .before .before .before .before .before .before .before .pre) (c .before .before .before .before .before .before .before .before .before .before .before .before .index-own .ensures) (c .before .before .before .before .before .before .before .before .index-supposed .ensures) (c .before .before .before .before .set-up .ensures .0) (c .before .before .before .before .set-up .ensures .1)
 
--- src/lib.rt:49:1
 same-length : tie.Need-same-length
 same-length c = search needs
 
--- src/lib.rt:49:1
 same-length-2 : tie.Need-same-length-2
 same-length-2 c = search needs
 
--- src/lib.rt:49:1
 returns : tie.Need-returns
 returns c = let x = c .before .before .before .before .run .ensures in record { ending = x .0 .0; tally = x .0 .1; buffer = x .1 }
 
 pub whole-run-spec : {M : Type 1} → statement M
 whole-run-spec =
     tie.close
-    (tie.spec index-own-requires set-up-requires run-requires same-length same-length-2 returns)
+    (tie.spec index-own-requires index-supposed-requires set-up-requires run-requires same-length same-length-2 returns)

@@ -1,5 +1,6 @@
 use native.Mathlib.Omega.{arith}
 use Rattle.taking.specs.Takes.{orRegs}
+use Rattle.branch.proofs.KeepLaws.{flag-small}
 use Rattle.taking.proofs.WrittenLaws.{or-written}
 use borrow.Author.Needs.{needs}
 use Rattle.taking.proofs.take_or.Statement.{statement}
@@ -50,7 +51,7 @@ put-cell-requires c κs = search needs
 
 -- src/lib.rt:103:5
 keep-requires : tie.Need-keep-requires
-keep-requires c κs = search needs
+keep-requires c κs = (search needs, (search needs, (rw (c .before .before .before .before .before .before .flag-of .ensures) (flag-small (c .before .before .before .before .before .before .before .before .before .before .before .before .args .r .supposed)), search needs, search needs, search needs)))
 
 -- src/lib.rt:104:26
 add-put-cell-5 : tie.Need-add-put-cell-5

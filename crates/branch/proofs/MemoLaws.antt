@@ -51,12 +51,12 @@ pub keeps-back : {lo hi : ℕ} {ws ws′ : List ℕ} → Keeps lo hi ws ws′ �
 keeps-back K = record { size = sym (K .size); same = λ k l u. sym (K .same k l u) }
 
 -- what is found from program p on depends on the words of the programs up to p
-pub finds-keeps : {book ws ws′ : List ℕ} {programs p k f m w : ℕ} → 0 < p → p < programs → Keeps 8200 (8200 + 3 * programs) ws ws′ → Finds book ws p k f m w → Finds book ws′ p k f m w
-finds-keeps {book} {ws} {ws′} {programs} {p} {k} {f} {m} {w} a b K F made top rest r =
+pub finds-keeps : {book ws ws′ : List ℕ} {programs p f m w : ℕ} → 0 < p → p < programs → Keeps 8200 (8200 + 3 * programs) ws ws′ → Finds book ws p f m w → Finds book ws′ p f m w
+finds-keeps {book} {ws} {ws′} {programs} {p} {f} {m} {w} a b K F made top rest r =
     let K′ : Keeps 8200 (8200 + 3 * suc p) ws ws′ = keeps-narrow (omega arith) (omega arith) K in
     put-more (below r) (put-keeps K′ (F made (suc p) rest (rest-keeps (keeps-back K′) (rest-top (λ z. omega arith) r))))
   where
-    below : {l : List Force} → IsRest book ws′ made top p k l → suc p ≤ top
+    below : {l : List Force} → IsRest book ws′ made top p 0 l → suc p ≤ top
     below (own-rest e x y) = absurd (omega arith)
     below (put-rest c d x y e g h i j q) = d
 
@@ -141,34 +141,34 @@ pub stays-trans : {book : List ℕ} {programs : ℕ} {ws ws₁ ws₂ : List ℕ}
 stays-trans a b = (only-trans (a .0) (b .0), λ left M. b .1 left (a .1 left M))
 
 -- WHERE AN ENTRY IS
-pub entry-here : (mark k f : ℕ) → (k < 1024) × (f < 65536) → (13328 + 3 * ((mark % 64 + f + k + k / 64) % 64) ≡ entryAt mark k f) × (13328 + 3 * ((mark % 64 + f + k + k / 64) % 64) + 2 < 13520)
+pub entry-here : (mark f : ℕ) → (13328 + 3 * ((mark % 64 + f) % 64) ≡ entryAt mark f) × (13328 + 3 * ((mark % 64 + f) % 64) + 2 < 13520)
 unfolding entryAt
-entry-here mark k f h = (refl, omega arith)
+entry-here mark f = (refl, omega arith)
 
-pub memo-words : (ws : List ℕ) (p k f m w e : ℕ) → e ≡ entryAt (markOf ws p) k f
-    → set (set (set ws e (markOf ws p)) (e + 1) (65536 * f + m)) (e + 2) (4194304 * k + (w + 1)) ≡ memoWords ws p k f m w
+pub memo-words : (ws : List ℕ) (p f m w e : ℕ) → e ≡ entryAt (markOf ws p) f
+    → set (set (set ws e (markOf ws p)) (e + 1) (65536 * f + m)) (e + 2) (w + 1) ≡ memoWords ws p f m w
 unfolding memoWords
-memo-words ws p k f m w e x = rw x refl
+memo-words ws p f m w e x = rw x refl
 
 -- WHAT IS KNOWN
-pub known-finds : {book ws : List ℕ} {top left q k f m mark e v : ℕ} → Memo book ws top left → 0 < q → q < top → mark ≡ markOf ws q → e ≡ entryAt mark k f → getD ws e 0 ≡ mark
-    → getD ws (e + 1) 0 ≡ 65536 * f + m → m < 65536 → v ≡ getD ws (e + 2) 0 → v / 4194304 ≡ k → 0 < v % 4194304 → Finds book ws q k f m (v % 4194304 - 1)
+pub known-finds : {book ws : List ℕ} {top left q f m mark e : ℕ} → Memo book ws top left → 0 < q → q < top → mark ≡ markOf ws q → e ≡ entryAt mark f → getD ws e 0 ≡ mark
+    → getD ws (e + 1) 0 ≡ 65536 * f + m → m < 65536 → 0 < getD ws (e + 2) 0 % 4194304 → Finds book ws q f m (getD ws (e + 2) 0 % 4194304 - 1)
 unfolding entryAt
-known-finds {ws = ws} {k = k} {f = f} {m = m} {mark = mark} {e = e} {v = v} M a b me ee s x u ve ke z =
-    let E = (mark % 64 + f + k + k / 64) % 64 in
-    let F = M .right E _ (omega arith) a b (rw (← ee) (s ∙ me)) f m u (rw (← ee) x) (rw (← ee, ← ve) z) in
-    rw (← ee, ← ve, ke) at F
+known-finds {ws = ws} {f = f} {m = m} {mark = mark} {e = e} M a b me ee s x u z =
+    let E = (mark % 64 + f) % 64 in
+    let F = M .right E _ (omega arith) a b (rw (← ee) (s ∙ me)) f m u (rw (← ee) x) (rw (← ee) z) in
+    rw (← ee) at F
 
 -- WHAT IS REMEMBERED
-module _ (ws : List ℕ) (p k f m w : ℕ) (long : length ws ≡ 16384) where
+module _ (ws : List ℕ) (p f m w : ℕ) (long : length ws ≡ 16384) where
   abbrev slot : ℕ
-  slot = (markOf ws p % 64 + f + k + k / 64) % 64
+  slot = (markOf ws p % 64 + f) % 64
 
   abbrev at : ℕ
   at = 13328 + 3 * slot
 
   abbrev after : List ℕ
-  after = memoWords ws p k f m w
+  after = memoWords ws p f m w
 
   abbrev one : List ℕ
   one = set ws at (markOf ws p)
@@ -179,7 +179,7 @@ module _ (ws : List ℕ) (p k f m w : ℕ) (long : length ws ≡ 16384) where
   slot-below : slot < 64
   slot-below = omega arith
 
-  after-is : after ≡ set two (at + 2) (4194304 * k + (w + 1))
+  after-is : after ≡ set two (at + 2) (w + 1)
   unfolding memoWords entryAt
   after-is = refl
 
@@ -190,25 +190,25 @@ module _ (ws : List ℕ) (p k f m w : ℕ) (long : length ws ≡ 16384) where
   two-long = length-set one (at + 1) (65536 * f + m) ∙ one-long
 
   after-long : length after ≡ length ws
-  after-long = ap length after-is ∙ length-set two (at + 2) (4194304 * k + (w + 1)) ∙ two-long ∙ sym long
+  after-long = ap length after-is ∙ length-set two (at + 2) (w + 1) ∙ two-long ∙ sym long
 
   other : (i : ℕ) → (i ≡ at → ⊥) → (i ≡ at + 1 → ⊥) → (i ≡ at + 2 → ⊥) → getD after i 0 ≡ getD ws i 0
   other i a b c =
-      ap (λ (l : List ℕ). getD l i 0) after-is ∙ getD-set-other two (at + 2) i (4194304 * k + (w + 1)) 0 c ∙ getD-set-other one (at + 1) i (65536 * f + m) 0 b
+      ap (λ (l : List ℕ). getD l i 0) after-is ∙ getD-set-other two (at + 2) i (w + 1) 0 c ∙ getD-set-other one (at + 1) i (65536 * f + m) 0 b
       ∙ getD-set-other ws at i (markOf ws p) 0 a
 
   mark-here : getD after at 0 ≡ markOf ws p
   mark-here =
-      ap (λ (l : List ℕ). getD l at 0) after-is ∙ getD-set-other two (at + 2) at (4194304 * k + (w + 1)) 0 (λ e. omega arith) ∙ getD-set-other one (at + 1) at (65536 * f + m) 0 (λ e. omega arith)
+      ap (λ (l : List ℕ). getD l at 0) after-is ∙ getD-set-other two (at + 2) at (w + 1) 0 (λ e. omega arith) ∙ getD-set-other one (at + 1) at (65536 * f + m) 0 (λ e. omega arith)
       ∙ getD-set-same ws at (markOf ws p) 0 (omega (arith, slot-below))
 
   asked-here : getD after (at + 1) 0 ≡ 65536 * f + m
   asked-here =
-      ap (λ (l : List ℕ). getD l (at + 1) 0) after-is ∙ getD-set-other two (at + 2) (at + 1) (4194304 * k + (w + 1)) 0 (λ e. omega arith)
+      ap (λ (l : List ℕ). getD l (at + 1) 0) after-is ∙ getD-set-other two (at + 2) (at + 1) (w + 1) 0 (λ e. omega arith)
       ∙ getD-set-same one (at + 1) (65536 * f + m) 0 (omega (arith, one-long, slot-below))
 
-  found-here : getD after (at + 2) 0 ≡ 4194304 * k + (w + 1)
-  found-here = ap (λ (l : List ℕ). getD l (at + 2) 0) after-is ∙ getD-set-same two (at + 2) (4194304 * k + (w + 1)) 0 (omega (arith, two-long, slot-below))
+  found-here : getD after (at + 2) 0 ≡ w + 1
+  found-here = ap (λ (l : List ℕ). getD l (at + 2) 0) after-is ∙ getD-set-same two (at + 2) (w + 1) 0 (omega (arith, two-long, slot-below))
 
   pub remembers-only : MemoOnly ws after
   remembers-only = record {
@@ -216,7 +216,7 @@ module _ (ws : List ℕ) (p k f m w : ℕ) (long : length ws ≡ 16384) where
     above = record { size = after-long; same = λ i l u. other i (λ e. omega (arith, slot-below)) (λ e. omega (arith, slot-below)) (λ e. omega (arith, slot-below)) };
   }
 
-  module _ (book : List ℕ) (top : ℕ) (some : 0 < p) (below : p < top) (few : top ≤ 514) (mm : m < 65536) (ww : w < 4194303) (F : Finds book ws p k f m w) where
+  module _ (book : List ℕ) (top : ℕ) (some : 0 < p) (below : p < top) (few : top ≤ 514) (mm : m < 65536) (ww : w < 4194303) (F : Finds book ws p f m w) where
     programs-keep : Keeps 8200 (8200 + 3 * top) ws after
     programs-keep = keeps-narrow (omega arith) (omega arith) (remembers-only .below)
 
@@ -231,9 +231,8 @@ module _ (ws : List ℕ) (p k f m w : ℕ) (long : length ws ≡ 16384) where
         let y : 65536 * f + m ≡ 65536 * g + n = sym asked-here ∙ x in
         let fg : f ≡ g = omega arith in
         let mn : m ≡ n = omega arith in
-        let d : (4194304 * k + (w + 1)) / 4194304 ≡ k = omega arith in
-        let r : (4194304 * k + (w + 1)) % 4194304 - 1 ≡ w = omega arith in
-        rw (v, d, r, ← fg, ← mn, ← pq) (finds-keeps some below programs-keep F)
+        let r : (w + 1) % 4194304 - 1 ≡ w = omega arith in
+        rw (v, r, ← fg, ← mn, ← pq) (finds-keeps some below programs-keep F)
       where
         same-program : Dec (p < q) → Dec (q < p) → p ≡ q
         same-program (yes h) i = absurd (let c = M .falling p q some h b in omega arith)

@@ -1,10 +1,10 @@
 -- THE MEMO: what the search along the programs that were put has found before, so that it is not made again.
 -- Program p's third word, 8200 + 3 p + 2, is its mark: the units that were left when it was put. Putting a program takes a unit, so no two programs of a run have the same mark.
--- Entry e, below 64: three words from 13328 + 3 e: the mark of a program; a head's symbol and argument count; and from which clause of the program on it was looked for, with the word found.
+-- Entry e, below 64: three words from 13328 + 3 e: the mark of a program; a head's symbol and argument count; and the word found, and 1.
 use mathlib.Core.Path.{_≡_}
 use mathlib.Core.Logic.{_⊎_}
 use mathlib.Core.List.{List}
-use Prim.Native.Nat.{ℕ, _+_, _-_, _*_, _/_, _%_, _≤_, _<_}
+use Prim.Native.Nat.{ℕ, _+_, _-_, _*_, _%_, _<_}
 use lib.ListN.{getD, set}
 use Rattle.machine.specs.Machine.{Force}
 use Rattle.words.specs.Frame.{Keeps}
@@ -15,18 +15,18 @@ use Rattle.branch.specs.Seeking.{SoughtPut}
 abbrev pub markOf : List ℕ → ℕ → ℕ
 markOf ws p = getD ws (8200 + 3 * p + 2) 0
 
--- where the memo has the answer for a program with this mark, from clause k on, for a head with symbol f
-unfoldable pub entryAt : ℕ → ℕ → ℕ → ℕ
-entryAt mark k f = 13328 + 3 * ((mark % 64 + f + k + k / 64) % 64)
+-- where the memo has the answer for a program with this mark, for a head with symbol f
+unfoldable pub entryAt : ℕ → ℕ → ℕ
+entryAt mark f = 13328 + 3 * ((mark % 64 + f) % 64)
 
--- word w is what is found from clause k of program p on, for symbol f and m arguments
-abbrev pub Finds : List ℕ → List ℕ → ℕ → ℕ → ℕ → ℕ → ℕ → Type 0
-Finds book ws p k f m w = (made top : ℕ) (rest : List Force) → IsRest book ws made top p k rest → SoughtPut book ws made top f m rest w
+-- word w is what is found from program p on, for symbol f and m arguments
+abbrev pub Finds : List ℕ → List ℕ → ℕ → ℕ → ℕ → ℕ → Type 0
+Finds book ws p f m w = (made top : ℕ) (rest : List Force) → IsRest book ws made top p 0 rest → SoughtPut book ws made top f m rest w
 
 -- what the memo's entry e says of program p, if it has the program's mark
 abbrev pub EntryRight : List ℕ → List ℕ → ℕ → ℕ → Type 0
-EntryRight book ws e p = (f m : ℕ) → m < 65536 → getD ws (13328 + 3 * e + 1) 0 ≡ 65536 * f + m
-    → 0 < getD ws (13328 + 3 * e + 2) 0 % 4194304 → Finds book ws p (getD ws (13328 + 3 * e + 2) 0 / 4194304) f m (getD ws (13328 + 3 * e + 2) 0 % 4194304 - 1)
+EntryRight book ws e p = (f m : ℕ) → m < 65536 → getD ws (13328 + 3 * e + 1) 0 ≡ 65536 * f + m → 0 < getD ws (13328 + 3 * e + 2) 0 % 4194304
+    → Finds book ws p f m (getD ws (13328 + 3 * e + 2) 0 % 4194304 - 1)
 
 -- the memo is right for the programs below `programs`, and with `left` units left the next program's mark is a new one
 pub record Memo (book ws : List ℕ) (programs left : ℕ) : Type 0 where
@@ -36,8 +36,8 @@ pub record Memo (book ws : List ℕ) (programs left : ℕ) : Type 0 where
   pub right : (e p : ℕ) → e < 64 → 0 < p → p < programs → getD ws (13328 + 3 * e) 0 ≡ markOf ws p → EntryRight book ws e p
 
 -- what remembering word w as the answer writes
-unfoldable pub memoWords : List ℕ → ℕ → ℕ → ℕ → ℕ → ℕ → List ℕ
-memoWords ws p k f m w = set (set (set ws (entryAt (markOf ws p) k f) (markOf ws p)) (entryAt (markOf ws p) k f + 1) (65536 * f + m)) (entryAt (markOf ws p) k f + 2) (4194304 * k + (w + 1))
+unfoldable pub memoWords : List ℕ → ℕ → ℕ → ℕ → ℕ → List ℕ
+memoWords ws p f m w = set (set (set ws (entryAt (markOf ws p) f) (markOf ws p)) (entryAt (markOf ws p) f + 1) (65536 * f + m)) (entryAt (markOf ws p) f + 2) (w + 1)
 
 -- nothing but the memo differs
 pub record MemoOnly (ws ws′ : List ℕ) : Type 0 where

@@ -17,7 +17,7 @@ use Rattle.index.proofs.BucketLaws.{in-bounds, in-other, in-this, skip-
 
 -- THE WORD OF A CLAUSE
 module _ (book : List ℕ) (first n : ℕ) where
-  entry-here : (i : ℕ) → i < n → 4096 * field book (first + i) 1 + i ≡ entryOf book first n i
+  entry-here : (i : ℕ) → i < n → 1048576 * field book (first + i) 1 + i ≡ entryOf book first n i
   unfolding entryOf
   entry-here i h = rw (entryOf, lt-ltb i n h) refl
 
@@ -32,7 +32,7 @@ module _ (book : List ℕ) (first n : ℕ) where
       go (yes l) = rw (← entry-here i l) (omega arith)
       go (no l) = let e : i ≡ n = omega arith in rw (e, ← entry-none) (omega arith)
 
-  entry-clause : n ≤ 1024 → (i : ℕ) → i < n → entryOf book first n i / 4096 ≡ field book (first + i) 1
+  entry-clause : n ≤ 1024 → (i : ℕ) → i < n → entryOf book first n i / 1048576 ≡ field book (first + i) 1
   entry-clause m i h = rw (← entry-here i h) (omega arith)
 
 -- EMPTYING
@@ -80,7 +80,7 @@ module _ (book : List ℕ) (first n i : ℕ) (ws ws₁ : List ℕ) (l : length w
   one = set ws₁ (5120 + i) (getD ws₁ (4096 + b) 0 % 2048)
 
   abbrev two : List ℕ
-  two = set one (4096 + b) (4096 * v + i)
+  two = set one (4096 + b) (1048576 * v + i)
 
   firsts-more : (x : ℕ) → x < 1024 → getD two (4096 + x) 0 ≡ entryOf book first n (nextIn headBucket book first x i (n - i))
   firsts-more x a = go (decLt x b) (decLt b x)
@@ -95,7 +95,7 @@ module _ (book : List ℕ) (first n i : ℕ) (ws ws₁ : List ℕ) (l : length w
       go (no u) (yes v) = other (λ (z : x ≡ b). omega arith)
       go (no u) (no v) =
           let z : x ≡ b = omega arith in
-          rw z (getD-set-same one (4096 + b) _ 0 (simp length-set (omega (arith, size-here)))) ∙ ap (λ (z : ℕ). 4096 * z + i) ve
+          rw z (getD-set-same one (4096 + b) _ 0 (simp length-set (omega (arith, size-here)))) ∙ ap (λ (z : ℕ). 1048576 * z + i) ve
           ∙ entry-here book first n i h ∙ ap (entryOf book first n) (in-this headBucket book first x i n h (z ∙ e))
 
   nexts-more : (j : ℕ) → i ≤ j → j < n → getD two (5120 + j) 0 ≡ nextIn headBucket book first (bucketOf headBucket book first j) (j + 1) (n - (j + 1))
@@ -127,7 +127,7 @@ module _ (book : List ℕ) (first n i : ℕ) (ws ws₁ : List ℕ) (l : length w
 pub made-all : (book : List ℕ) (first n : ℕ) (ws ws′ : List ℕ) → n ≤ 1024 → IndexedFrom book first n 0 ws ws′ → Indexed book first n ws′
 made-all book first n ws ws′ m I = record {
   firsts = λ b h. ap (λ (x : ℕ). x % 2048) (word b h) ∙ entry-number book first n m _ (omega (arith, in-bounds headBucket book first b 0 n .1));
-  clauses = λ b h l. ap (λ (x : ℕ). x / 4096) (word b h) ∙ entry-clause book first n m _ l;
+  clauses = λ b h l. ap (λ (x : ℕ). x / 1048576) (word b h) ∙ entry-clause book first n m _ l;
   nexts = λ i h. I .nexts i (omega arith) h;
 }
   where
@@ -138,7 +138,7 @@ made-all book first n ws ws′ m I = record {
 pub indexed-same : (book : List ℕ) (first n : ℕ) {ws ws′ : List ℕ} → n ≤ 1024 → Keeps 4096 6144 ws ws′ → Indexed book first n ws → Indexed book first n ws′
 indexed-same book first n m K I = record {
   firsts = λ b h. ap (λ (x : ℕ). x % 2048) (K .same (4096 + b) (omega arith) (omega arith)) ∙ I .firsts b h;
-  clauses = λ b h l. ap (λ (x : ℕ). x / 4096) (K .same (4096 + b) (omega arith) (omega arith)) ∙ I .clauses b h l;
+  clauses = λ b h l. ap (λ (x : ℕ). x / 1048576) (K .same (4096 + b) (omega arith) (omega arith)) ∙ I .clauses b h l;
   nexts = λ i h. K .same (5120 + i) (omega arith) (omega arith) ∙ I .nexts i h;
 }
 
@@ -160,7 +160,7 @@ module _ (book : List ℕ) (first n : ℕ) (ws : List ℕ) (I : Indexed book fir
       first-skips r d = let z : n - 0 ≡ n = omega arith in d ∙ skip-same headBucket book first n 0 _ (omega arith) f m first-of ∙ rw z refl
 
     -- and the record, if it is the clause's
-    pub first-record : (i : ℕ) → i < n → getD ws (4096 + b) 0 % 2048 ≡ i → getD ws (4096 + b) 0 / 4096 ≡ field book (first + i) 1
+    pub first-record : (i : ℕ) → i < n → getD ws (4096 + b) 0 % 2048 ≡ i → getD ws (4096 + b) 0 / 1048576 ≡ field book (first + i) 1
     first-record i h e =
         let d : nextIn headBucket book first b 0 n ≡ i = sym (I .firsts b c) ∙ e in
         I .clauses b c (rw d h) ∙ ap (λ (x : ℕ). field book (first + x) 1) d

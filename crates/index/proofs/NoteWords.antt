@@ -55,25 +55,25 @@ module _ (first n : ℕ) (ws₀ : List ℕ) where
 
 -- A CLAUSE: what the code reads of it, and what it writes with that
 module _ (book : List ℕ) (first n i c h f m : ℕ) (pc : c ≡ field book (first + i) 1) (ph : h ≡ field book c 4) (pf : f ≡ field book h 1) (pm : m ≡ field book h 2) where
-  pub enter-written : (ws ws₁ ws₂ ws₃ : List ℕ) (s next b : ℕ) → s ≡ smallBucket n f m → next ≡ noteOf ws (first + s) → ws₁ ≡ noteWords ws c next → ws₂ ≡ noteWords ws₁ (first + s) i
-      → b ≡ headBucket f m → ws₃ ≡ markWords ws₂ b → ws₃ ≡ enterClause book first n i ws
+  pub enter-written : (g : ℕ) (ws ws₁ ws₂ ws₃ : List ℕ) (s next b : ℕ) → s ≡ smallBucket n f m → next ≡ noteOf ws (first + s) → ws₁ ≡ noteWords ws c next → ws₂ ≡ noteWords ws₁ (first + s) i
+      → b ≡ headBucket f m → ws₃ ≡ markWords ws₂ b g → ws₃ ≡ enterClause book g first n i ws
   unfolding enterClause bucketOf
-  enter-written ws ws₁ ws₂ ws₃ s next b ps pn p₁ p₂ pb p₃ = rw (p₃, p₂, p₁, pn, ps, pb, pm, pf, ph, pc) refl
+  enter-written g ws ws₁ ws₂ ws₃ s next b ps pn p₁ p₂ pb p₃ = rw (p₃, p₂, p₁, pn, ps, pb, pm, pf, ph, pc) refl
 
 -- A RUN, the last clause first
-module _ (book : List ℕ) (first n : ℕ) (ws₀ : List ℕ) where
-  pub run-none : (ws : List ℕ) → ws ≡ emptyRun first n n ws₀ → ws ≡ runWords book first n (n - n) ws₀
+module _ (book : List ℕ) (s first n : ℕ) (ws₀ : List ℕ) where
+  pub run-none : (ws : List ℕ) → ws ≡ emptyRun first n n ws₀ → ws ≡ runWords book s first n (n - n) ws₀
   unfolding runWords
   run-none ws e = let z : n - n ≡ 0 = omega arith in rw z e
 
-  pub run-more : (i : ℕ) (ws ws′ : List ℕ) → 0 < i → i ≤ n → ws ≡ runWords book first n (n - i) ws₀ → ws′ ≡ enterClause book first n (i - 1) ws → ws′ ≡ runWords book first n (n - (i - 1)) ws₀
+  pub run-more : (i : ℕ) (ws ws′ : List ℕ) → 0 < i → i ≤ n → ws ≡ runWords book s first n (n - i) ws₀ → ws′ ≡ enterClause book s first n (i - 1) ws → ws′ ≡ runWords book s first n (n - (i - 1)) ws₀
   unfolding runWords
   run-more i ws ws′ h l e q =
       let z : n - (i - 1) ≡ suc (n - i) = omega arith in
       let y : n - suc (n - i) ≡ i - 1 = omega arith in
-      rw (z, runWords, y) (q ∙ ap (enterClause book first n (i - 1)) e)
+      rw (z, runWords, y) (q ∙ ap (enterClause book s first n (i - 1)) e)
 
-  pub run-all : (i : ℕ) (ws : List ℕ) → i ≤ 0 → ws ≡ runWords book first n (n - i) ws₀ → ws ≡ runWords book first n n ws₀
+  pub run-all : (i : ℕ) (ws : List ℕ) → i ≤ 0 → ws ≡ runWords book s first n (n - i) ws₀ → ws ≡ runWords book s first n n ws₀
   run-all i ws h e = let z : n - i ≡ n = omega arith in rw z at e
 
 -- ALL RUNS
@@ -86,7 +86,7 @@ module _ (book : List ℕ) (s k first n : ℕ) (pk : k ≡ field book s 0) (e : 
   pub supposed-ready : Readable book → Formed book → s < length book / 16 → ClauseRun book first n × (0 < n) × (n ≤ 64) × (first + n ≤ 4096)
   supposed-ready R F h = rw (pf, pn) (suppose-run book R F s (in-records book s h) (seven-kind book s (sym pk ∙ e)))
 
-  pub supposed-more : (ws₀ ws ws′ : List ℕ) → ws ≡ supposedWords book s ws₀ → ws′ ≡ runWords book first n n ws → ws′ ≡ supposedWords book (s + 1) ws₀
+  pub supposed-more : (ws₀ ws ws′ : List ℕ) → ws ≡ supposedWords book s ws₀ → ws′ ≡ runWords book s first n n ws → ws′ ≡ supposedWords book (s + 1) ws₀
   unfolding supposedWords
   supposed-more ws₀ ws ws′ p q =
       let z : s + 1 ≡ suc s = omega arith in

@@ -1,19 +1,21 @@
 -- Laws of runs: what stands in that of a suppose goal, and the search along any.
 use mathlib.Core.Path.{_≡_, refl, sym, _∙_}
-use mathlib.Core.Bool.{Bool, true, false}
+use mathlib.Core.Bool.{Bool, true, false, _&&_}
 use mathlib.Core.List.{List}
-use Prim.Native.Nat.{ℕ, suc, _+_, _-_, _≤_, _<_}
+use Prim.Native.Nat.{ℕ, suc, _+_, _-_, _*_, _≤_, _<_}
 use native.Mathlib.Omega.{arith}
-use borrow.Author.Tests.{eq-eqb, ne-eqb}
-use lib.Dec.{eqb}
+use borrow.Author.Tests.{eq-eqb, ne-eqb, lt-ltb, le-ltb}
+use native.Mathlib.Decide.{decLt}
+use lib.Dec.{eqb, ltb}
 use Rattle.book.specs.Records.{field, records}
 use Rattle.book.specs.Kinds.{kindAt, kindOf, supposeKind}
 use Rattle.book.proofs.Accepted.{Formed}
 use Rattle.book.proofs.Pointers.{kind-by, suppose-fields, clause-head}
 use Rattle.book.proofs.Apart.{supposed-links}
+use Rattle.book.proofs.Tests.{Tested, Tested.equal, Tested.other, tested}
 use Rattle.words.specs.Readable.{Readable}
 use Rattle.words.proofs.ReadLaws.{in-book}
-use Rattle.index.specs.Runs.{headMatches, nextMatch, ClauseRun}
+use Rattle.index.specs.Runs.{headMatches, nextMatch, foundAmong, ClauseRun}
 
 -- SUPPOSE GOALS
 
@@ -36,15 +38,40 @@ suppose-run book R F s h k =
       omega (arith, x .2, in-book book R s h .1),
     )
 
--- THE CODE'S TEST OF A HEAD
-module _ (book : List ℕ) (f m c h g n : ℕ) (p : h ≡ field book c 4) (q : g ≡ field book h 1) (r : n ≡ field book h 2) where
-  pub heads-yes : f ≡ g → eqb m n ≡ headMatches book f m c
-  unfolding headMatches
-  heads-yes e = rw (headMatches, ← p, ← q, ← r, eq-eqb f g e) refl
+-- WHAT IS FOUND AMONG n
+pub found-yes : (n j : ℕ) → j < n → j + 1 ≡ foundAmong n j
+unfolding foundAmong
+found-yes n j h = rw (foundAmong, lt-ltb j n h) refl
 
-  pub heads-no : (f ≡ g → ⊥) → false ≡ headMatches book f m c
-  unfolding headMatches
-  heads-no e = rw (headMatches, ← p, ← q, ne-eqb f g e) refl
+pub found-no : (n j : ℕ) → n ≤ j → 0 ≡ foundAmong n j
+unfolding foundAmong
+found-no n j h = rw (foundAmong, le-ltb j n h) refl
+
+-- and back
+pub found-some : (n j r : ℕ) → r ≡ foundAmong n j → 0 < r → (j < n) × (r ≡ j + 1)
+found-some n j r e h = go (decLt j n)
+  where
+    go : Dec (j < n) → (j < n) × (r ≡ j + 1)
+    go (yes l) = (l, e ∙ sym (found-yes n j l))
+    go (no l) = absurd (omega (arith, e ∙ sym (found-no n j (omega arith))))
+
+pub found-none : (n j r : ℕ) → r ≡ foundAmong n j → r ≤ 0 → n ≤ j
+found-none n j r e h = go (decLt j n)
+  where
+    go : Dec (j < n) → n ≤ j
+    go (yes l) = absurd (omega (arith, e ∙ sym (found-yes n j l)))
+    go (no l) = omega arith
+
+-- THE CODE'S TEST OF A HEAD: two numbers in one are compared
+pub heads-both : (book : List ℕ) (f m c h x : ℕ) → h ≡ field book c 4 → (x ≡ field book h 1 + 65536 * field book h 2) × (field book h 1 < 65536) → f < 65536
+    → eqb x (f + 65536 * m) ≡ headMatches book f m c
+unfolding headMatches
+heads-both book f m c h x p q s = rw (headMatches, ← p) (go (tested f (field book h 1)) (tested m (field book h 2)))
+  where
+    go : {t u : Bool} → Tested f (field book h 1) t → Tested m (field book h 2) u → eqb x (f + 65536 * m) ≡ (t && u)
+    go (equal e) (equal d) = eq-eqb x (f + 65536 * m) (omega (arith, q .0))
+    go (equal e) (other d) = ne-eqb x (f + 65536 * m) (λ z. d (omega (arith, q .0, q .1)))
+    go (other e) u = ne-eqb x (f + 65536 * m) (λ z. e (omega (arith, q .0, q .1)))
 
 -- A TURN OF THE SEARCH
 module _ (book : List ℕ) (f m first : ℕ) where

@@ -1,6 +1,7 @@
 -- An index of a run of clauses by head symbol and argument count, in buckets: for each bucket its first clause, and for each clause the next one of its bucket.
 -- Here, that of the question's own run of at most 1,024 clauses, in 1,024 buckets. Word 4096 + b is the number of the first clause in bucket b, with the clause's record;
--- and word 5120 + i the number of the next clause in clause i's bucket; n, the length of the run, is none. Bit 11 of word 4096 + b is the mark of the supposed clauses (Supposed).
+-- and word 5120 + i the number of the next clause in clause i's bucket; n, the length of the run, is none.
+-- Word 4096 + b is 1048576 * record + number, and the eight bits from bit 11 on are the marks of the supposed clauses (Supposed).
 use mathlib.Core.Path.{_≡_}
 use mathlib.Core.Bool.{Bool, true, false}
 use mathlib.Core.List.{List}
@@ -34,12 +35,12 @@ headBucket f m = (f + 64 * m) % 1024
 
 -- the word of clause i of a run of n: its number, and its record; n alone, if there is no such clause
 unfoldable pub entryOf : List ℕ → ℕ → ℕ → ℕ → ℕ
-entryOf book first n i = elim (ltb i n) [ true ↦ 4096 * field book (first + i) 1 + i | false ↦ n ]
+entryOf book first n i = elim (ltb i n) [ true ↦ 1048576 * field book (first + i) 1 + i | false ↦ n ]
 
 -- the words say so, whatever is marked
 pub record Indexed (book : List ℕ) (first n : ℕ) (ws : List ℕ) : Type 0 where
   pub firsts : (b : ℕ) → b < 1024 → getD ws (4096 + b) 0 % 2048 ≡ nextIn headBucket book first b 0 n
-  pub clauses : (b : ℕ) → b < 1024 → nextIn headBucket book first b 0 n < n → getD ws (4096 + b) 0 / 4096 ≡ field book (first + nextIn headBucket book first b 0 n) 1
+  pub clauses : (b : ℕ) → b < 1024 → nextIn headBucket book first b 0 n < n → getD ws (4096 + b) 0 / 1048576 ≡ field book (first + nextIn headBucket book first b 0 n) 1
   pub nexts : (i : ℕ) → i < n → getD ws (5120 + i) 0 ≡ nextIn headBucket book first (bucketOf headBucket book first i) (i + 1) (n - (i + 1))
 
 -- what the code of the index leaves: the buckets below b empty, and nothing else changed

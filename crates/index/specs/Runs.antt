@@ -2,7 +2,7 @@
 use mathlib.Core.Bool.{Bool, true, false, _&&_}
 use mathlib.Core.List.{List}
 use Prim.Native.Nat.{ℕ, zero, suc, _+_, _<_}
-use lib.Dec.{eqb}
+use lib.Dec.{eqb, ltb}
 use Rattle.book.specs.Records.{field, records}
 
 -- the head of clause record c has symbol f and m arguments
@@ -13,6 +13,10 @@ headMatches book f m c = eqb f (field book (field book c 4) 1) && eqb m (field b
 unfoldable pub nextMatch : List ℕ → ℕ → ℕ → ℕ → ℕ → ℕ → ℕ
 nextMatch book f m first k zero = k
 nextMatch book f m first k (suc j) = elim (headMatches book f m (field book (first + k) 1)) [ true ↦ k | false ↦ nextMatch book f m first (suc k) j ]
+
+-- what is found among n: number j, and 1; 0 if it is none of them
+unfoldable pub foundAmong : ℕ → ℕ → ℕ
+foundAmong n j = elim (ltb j n) [ true ↦ j + 1 | false ↦ 0 ]
 
 -- the links of a run of clauses, and the clauses' heads, are in the book
 abbrev pub ClauseRun : List ℕ → ℕ → ℕ → Type 0

@@ -7,23 +7,20 @@ ghost use lib.ListN.{length, getD, set};
 ghost use Rattle.book.specs.Records.{field as bookField, records};
 ghost use Rattle.book.proofs.Accepted.{Formed};
 ghost use Rattle.words.specs.Readable.{Readable};
-ghost use Rattle.index.specs.Runs.{headMatches, nextMatch, ClauseRun};
-ghost use Rattle.index.specs.Index.{headBucket, bucketOf, nextIn, Indexed, EmptyFrom, IndexedFrom, InBucket};
-ghost use Rattle.index.specs.Supposed.{smallBucket, noteOf, noteWords, marked, markWords, emptyRun, enterClause, runWords, supposedWords, RunIndexed};
+ghost use Rattle.book.specs.Kinds.{kindAt, supposeKind};
+ghost use Rattle.index.specs.Runs.{headMatches, nextMatch, foundAmong, ClauseRun};
+ghost use Rattle.index.specs.Index.{headBucket, bucketOf, Indexed, EmptyFrom, IndexedFrom, InBucket};
+ghost use Rattle.index.specs.Supposed.{smallBucket, noteOf, noteWords, marked, markedBy, markWords, emptyRun, enterClause, runWords, supposedWords, RunIndexed, SupposedIndexed};
 
 // Whether the head of clause c has symbol f and m arguments.
 fn head_matches(book: &[u8], c: u32, f: u32, m: u32) -> bool
     requires { ⌜ Readable (now book) ⌝ }
     requires { ⌜ (c < records (now book)) × (bookField (now book) c 4 < records (now book)) ⌝ }
+    requires { ⌜ (f < 65536) × (m < 65536) ⌝ }
     ensures { λ r. ⌜ r ≡ headMatches (now (book .entry)) f m c ⌝ }
 {
     let h = words::field(book, c, 4);
-    let g = words::field(book, h, 1);
-    let n = words::field(book, h, 2);
-    if f == g {
-        return m == n;
-    }
-    false
+    words::symbol_and_count(book, h) == f + 65536 * m
 }
 
 // The bucket of a head with symbol f and m arguments.
@@ -76,7 +73,7 @@ pub fn make_index(book: &[u8], ws: &mut [u32], first: u32, n: u32)
         let next = ws[at] % 2048;
         let c = words::field(book, first + i, 1);
         ws[(5120 + i) as usize] = next;
-        ws[at] = 4096 * c + i;
+        ws[at] = 1048576 * c + i;
     }
 }
 
@@ -86,6 +83,7 @@ fn match_along(book: &[u8], ws: &[u32], first: u32, n: u32, j: u32, f: u32, m: u
     requires { ⌜ ClauseRun (now book) first n ⌝ }
     requires { ⌜ (first < 4096) × (n ≤ 1024) × (length (now ws) ≡ 16384) ⌝ }
     requires { ⌜ Indexed (now book) first n (now ws) ⌝ }
+    requires { ⌜ (f < 65536) × (m < 65536) ⌝ }
     requires { ⌜ InBucket headBucket (now book) first n (headBucket f m) j ⌝ }
     ensures { λ r. ⌜ r ≡ nextMatch (now (book .entry)) f m first j (n - j) ⌝ }
 {
@@ -123,7 +121,7 @@ pub fn clause_at(book: &[u8], ws: &[u32], first: u32, n: u32, f: u32, i: u32) ->
 {
     let w = ws[(4096 + f % 1024) as usize];
     if w % 2048 == i {
-        return w / 4096;
+        return w / 1048576;
     }
     words::field(book, first + i, 1)
 }
@@ -134,6 +132,7 @@ pub fn match_after(book: &[u8], ws: &[u32], first: u32, n: u32, i: u32, f: u32, 
     requires { ⌜ ClauseRun (now book) first n ⌝ }
     requires { ⌜ (i < n) × (first < 4096) × (n ≤ 1024) × (length (now ws) ≡ 16384) ⌝ }
     requires { ⌜ Indexed (now book) first n (now ws) ⌝ }
+    requires { ⌜ (f < 65536) × (m < 65536) ⌝ }
     requires { ⌜ headMatches (now book) f m (bookField (now book) (first + i) 1) ≡ true ⌝ }
     ensures { λ r. ⌜ r ≡ nextMatch (now (book .entry)) f m first (i + 1) (n - (i + 1)) ⌝ }
 {
@@ -161,15 +160,16 @@ fn note(ws: &mut [u32], r: u32, v: u32)
     ws[at] = w - unit * old + unit * v;
 }
 
-// Marks bucket b of the question's own run.
-fn mark(ws: &mut [u32], b: u32)
+// Marks bucket b of the question's own run for the class of suppose goal s.
+fn mark(ws: &mut [u32], b: u32, s: u32)
     requires { ⌜ (b < 1024) × (length (now ws) ≡ 16384) ⌝ }
-    ensures { λ x. ⌜ now (ws .exit) ≡ markWords (now (ws .entry)) b ⌝ }
+    ensures { λ x. ⌜ now (ws .exit) ≡ markWords (now (ws .entry)) b s ⌝ }
 {
     let at = (4096 + b) as usize;
+    let unit = 2048u32 << (s % 8);
     let w = ws[at];
-    if w / 2048 % 2 == 0 {
-        ws[at] = w + 2048;
+    if w / unit % 2 == 0 {
+        ws[at] = w + unit;
     }
 }
 
@@ -193,12 +193,12 @@ fn empty_run(ws: &mut [u32], first: u32, n: u32)
     }
 }
 
-// Enters clause i of a supposed run of n into its bucket, as the first, and marks its head's bucket in the index of the question's own run.
-fn enter_clause(book: &[u8], ws: &mut [u32], first: u32, n: u32, i: u32)
+// Enters clause i of suppose goal s's run of n into its bucket, as the first, and marks its head's bucket in the index of the question's own run.
+fn enter_clause(book: &[u8], ws: &mut [u32], s: u32, first: u32, n: u32, i: u32)
     requires { ⌜ Readable (now book) ⌝ }
     requires { ⌜ ClauseRun (now book) first n ⌝ }
     requires { ⌜ (i < n) × (n ≤ 64) × (first + n ≤ 4096) × (length (now ws) ≡ 16384) ⌝ }
-    ensures { λ r. ⌜ now (ws .exit) ≡ enterClause (now (book .entry)) first n i (now (ws .entry)) ⌝ }
+    ensures { λ r. ⌜ now (ws .exit) ≡ enterClause (now (book .entry)) s first n i (now (ws .entry)) ⌝ }
 {
     let c = words::field(book, first + i, 1);
     let h = words::field(book, c, 4);
@@ -208,21 +208,21 @@ fn enter_clause(book: &[u8], ws: &mut [u32], first: u32, n: u32, i: u32)
     let next = note_of(ws, at);
     note(ws, c, next);
     note(ws, at, i);
-    mark(ws, head_bucket(f, m));
+    mark(ws, head_bucket(f, m), s);
 }
 
-// Makes the index of a supposed run, the last clause first, so that each bucket's clauses stand in the run's order.
-fn index_run(book: &[u8], ws: &mut [u32], first: u32, n: u32)
+// Makes the index of suppose goal s's run, the last clause first, so that each bucket's clauses stand in the run's order.
+fn index_run(book: &[u8], ws: &mut [u32], s: u32, first: u32, n: u32)
     requires { ⌜ Readable (now book) ⌝ }
     requires { ⌜ ClauseRun (now book) first n ⌝ }
     requires { ⌜ (n ≤ 64) × (first + n ≤ 4096) × (length (now ws) ≡ 16384) ⌝ }
-    ensures { λ r. ⌜ now (ws .exit) ≡ runWords (now (book .entry)) first n n (now (ws .entry)) ⌝ }
+    ensures { λ r. ⌜ now (ws .exit) ≡ runWords (now (book .entry)) s first n n (now (ws .entry)) ⌝ }
 {
     empty_run(ws, first, n);
     let mut i = n;
     while 0 < i {
         i -= 1;
-        enter_clause(book, ws, first, n, i);
+        enter_clause(book, ws, s, first, n, i);
     }
 }
 
@@ -239,7 +239,7 @@ pub fn index_supposed(book: &[u8], ws: &mut [u32])
         if words::field(book, s, 0) == 7 {
             let first = words::field(book, s, 1);
             let count = words::field(book, s, 2);
-            index_run(book, ws, first, count);
+            index_run(book, ws, s, first, count);
         }
         s += 1;
     }
@@ -250,22 +250,15 @@ pub fn is_supposed(ws: &[u32], f: u32, m: u32) -> bool
     requires { ⌜ (f < 65536) × (m < 65536) × (length (now ws) ≡ 16384) ⌝ }
     ensures { λ r. ⌜ r ≡ marked (now (ws .entry)) (headBucket f m) ⌝ }
 {
-    0 < ws[(4096 + head_bucket(f, m)) as usize] / 2048 % 2
+    0 < ws[(4096 + head_bucket(f, m)) as usize] / 2048 % 256
 }
 
-// The first of the clauses of a supposed run of n, from number k on, that is in the bucket of symbol f and m arguments; n if there is none. Clause k - 1, if k is not 0, matches.
-fn noted_from(book: &[u8], ws: &[u32], first: u32, n: u32, k: u32, f: u32, m: u32) -> u32
-    requires { ⌜ Readable (now book) ⌝ }
-    requires { ⌜ ClauseRun (now book) first n ⌝ }
-    requires { ⌜ (k ≤ n) × (0 < n) × (n ≤ 64) × (first + n ≤ 4096) × (f < 65536) × (m < 65536) × (length (now ws) ≡ 16384) ⌝ }
-    requires { ⌜ RunIndexed (now book) first n (now ws) ⌝ }
-    requires { ⌜ (0 < k → headMatches (now book) f m (bookField (now book) (first + (k - 1)) 1) ≡ true) ⌝ }
-    ensures { λ j. ⌜ j ≡ nextIn (smallBucket n) (now (book .entry)) first (smallBucket n f m) k (n - k) ⌝ }
+// Whether suppose goal s may suppose a clause with symbol f and m arguments: its class is marked in the head's bucket. If not, it supposes none.
+fn may_suppose(ws: &[u32], s: u32, f: u32, m: u32) -> bool
+    requires { ⌜ (f < 65536) × (m < 65536) × (length (now ws) ≡ 16384) ⌝ }
+    ensures { λ r. ⌜ r ≡ markedBy (now (ws .entry)) (headBucket f m) s ⌝ }
 {
-    if k == 0 {
-        return note_of(ws, first + small_bucket(n, f, m));
-    }
-    note_of(ws, words::field(book, first + (k - 1), 1))
+    0 < (ws[(4096 + head_bucket(f, m)) as usize] >> (11 + s % 8)) % 2
 }
 
 // The first of the clauses of a supposed run of n, from number j on, that matches; n if there is none. Clause j, if there is one, is in the symbol's bucket.
@@ -274,6 +267,7 @@ fn supposed_along(book: &[u8], ws: &[u32], first: u32, n: u32, j: u32, f: u32, m
     requires { ⌜ ClauseRun (now book) first n ⌝ }
     requires { ⌜ (n ≤ 64) × (first + n ≤ 4096) × (length (now ws) ≡ 16384) ⌝ }
     requires { ⌜ RunIndexed (now book) first n (now ws) ⌝ }
+    requires { ⌜ (f < 65536) × (m < 65536) ⌝ }
     requires { ⌜ InBucket (smallBucket n) (now book) first n (smallBucket n f m) j ⌝ }
     ensures { λ r. ⌜ r ≡ nextMatch (now (book .entry)) f m first j (n - j) ⌝ }
 {
@@ -288,15 +282,67 @@ fn supposed_along(book: &[u8], ws: &[u32], first: u32, n: u32, j: u32, f: u32, m
     i
 }
 
-// The first of the clauses of a supposed run of n, from number k on, that matches; n if there is none. Clause k - 1, if k is not 0, matches.
-pub fn next_supposed(book: &[u8], ws: &[u32], first: u32, n: u32, k: u32, f: u32, m: u32) -> u32
+// The first of the clauses of a supposed run of n that matches; n if there is none.
+fn first_supposed(book: &[u8], ws: &[u32], first: u32, n: u32, f: u32, m: u32) -> u32
     requires { ⌜ Readable (now book) ⌝ }
     requires { ⌜ ClauseRun (now book) first n ⌝ }
-    requires { ⌜ (k ≤ n) × (0 < n) × (n ≤ 64) × (first + n ≤ 4096) × (f < 65536) × (m < 65536) × (length (now ws) ≡ 16384) ⌝ }
+    requires { ⌜ (0 < n) × (n ≤ 64) × (first + n ≤ 4096) × (f < 65536) × (m < 65536) × (length (now ws) ≡ 16384) ⌝ }
     requires { ⌜ RunIndexed (now book) first n (now ws) ⌝ }
-    requires { ⌜ (0 < k → headMatches (now book) f m (bookField (now book) (first + (k - 1)) 1) ≡ true) ⌝ }
-    ensures { λ r. ⌜ r ≡ nextMatch (now (book .entry)) f m first k (n - k) ⌝ }
+    ensures { λ r. ⌜ r ≡ nextMatch (now (book .entry)) f m first 0 n ⌝ }
 {
-    let j = noted_from(book, ws, first, n, k, f, m);
+    let j = note_of(ws, first + small_bucket(n, f, m));
     supposed_along(book, ws, first, n, j, f, m)
+}
+
+// The next of the clauses of a supposed run of n after clause i, which matches, that does too; n if there is none.
+fn supposed_after(book: &[u8], ws: &[u32], first: u32, n: u32, i: u32, f: u32, m: u32) -> u32
+    requires { ⌜ Readable (now book) ⌝ }
+    requires { ⌜ ClauseRun (now book) first n ⌝ }
+    requires { ⌜ (i < n) × (n ≤ 64) × (first + n ≤ 4096) × (f < 65536) × (m < 65536) × (length (now ws) ≡ 16384) ⌝ }
+    requires { ⌜ RunIndexed (now book) first n (now ws) ⌝ }
+    requires { ⌜ headMatches (now book) f m (bookField (now book) (first + i) 1) ≡ true ⌝ }
+    ensures { λ r. ⌜ r ≡ nextMatch (now (book .entry)) f m first (i + 1) (n - (i + 1)) ⌝ }
+{
+    let j = note_of(ws, words::field(book, first + i, 1));
+    supposed_along(book, ws, first, n, j, f, m)
+}
+
+// The first clause that suppose goal s supposes with symbol f and m arguments: its number, and 1; 0 if there is none.
+pub fn first_of(book: &[u8], ws: &[u32], s: u32, f: u32, m: u32) -> u32
+    requires { ⌜ Readable (now book) ⌝ }
+    requires { ⌜ Formed (now book) × SupposedIndexed (now book) (now ws) ⌝ }
+    requires { ⌜ (s < records (now book)) × (kindAt (now book) s ≡ supposeKind) × (f < 65536) × (m < 65536) × (length (now ws) ≡ 16384) ⌝ }
+    ensures { λ r. ⌜ (r ≡ foundAmong (bookField (now (book .entry)) s 2) (nextMatch (now (book .entry)) f m (bookField (now (book .entry)) s 1) 0 (bookField (now (book .entry)) s 2))) × (r ≤ 64) ⌝ }
+{
+    if !may_suppose(ws, s, f, m) {
+        return 0;
+    }
+    let first = words::field(book, s, 1);
+    let n = words::field(book, s, 2);
+    let j = first_supposed(book, ws, first, n, f, m);
+    if j < n {
+        return j + 1;
+    }
+    0
+}
+
+// The next clause that suppose goal s supposes with symbol f and m arguments after its clause i, which is one: its number, and 1; 0 if there is none.
+pub fn next_of(book: &[u8], ws: &[u32], s: u32, i: u32, f: u32, m: u32) -> u32
+    requires { ⌜ Readable (now book) ⌝ }
+    requires { ⌜ Formed (now book) × SupposedIndexed (now book) (now ws) ⌝ }
+    requires { ⌜ (s < records (now book)) × (kindAt (now book) s ≡ supposeKind) × (f < 65536) × (m < 65536) × (length (now ws) ≡ 16384) ⌝ }
+    requires { ⌜ (i < bookField (now book) s 2) × (headMatches (now book) f m (bookField (now book) (bookField (now book) s 1 + i) 1) ≡ true) ⌝ }
+    ensures { λ r. ⌜ (r ≡ foundAmong (bookField (now (book .entry)) s 2) (nextMatch (now (book .entry)) f m (bookField (now (book .entry)) s 1) (i + 1) (bookField (now (book .entry)) s 2 - (i + 1)))) × (r ≤ 64) ⌝ }
+{
+    let first = words::field(book, s, 1);
+    let n = words::field(book, s, 2);
+    // the last clause has none after it, and its note need not be read
+    if n <= i + 1 {
+        return 0;
+    }
+    let j = supposed_after(book, ws, first, n, i, f, m);
+    if j < n {
+        return j + 1;
+    }
+    0
 }

@@ -16,7 +16,8 @@ use Rattle.branch.proofs.go_back.Reads as branch-go-back-reads
 use Rattle.branch.proofs.keep.Reads as branch-keep-reads
 use Rattle.branch.proofs.put_cell.Reads as branch-put-cell-reads
 use Rattle.index.proofs.index_supposed.Reads as index-index-supposed-reads
-use Rattle.index.proofs.next_supposed.Reads as index-next-supposed-reads
+use Rattle.index.proofs.first_of.Reads as index-first-of-reads
+use Rattle.index.proofs.next_of.Reads as index-next-of-reads
 use Rattle.index.proofs.is_supposed.Reads as index-is-supposed-reads
 use Rattle.following.proofs.follow.Reads as following-follow-reads
 use Rattle.index.proofs.clause_at.Reads as index-clause-at-reads
@@ -56,8 +57,11 @@ branch-put-cell κs a r r′ s s′ p q = p ∙ sym q
 pub index-index-supposed : (κs : _) (a : _) (r r′ : _) (s s′ : _) → index-index-supposed-reads.Post κs a r s → index-index-supposed-reads.Post κs a r′ s′ → s .1 .0 .now ≡ s′ .1 .0 .now
 index-index-supposed κs a r r′ s s′ p q = p ∙ sym q
 
-pub index-next-supposed : (κs : _) (a : _) (r r′ : _) (s s′ : _) → index-next-supposed-reads.Post κs a r s → index-next-supposed-reads.Post κs a r′ s′ → r ≡ r′
-index-next-supposed κs a r r′ s s′ p q = p ∙ sym q
+pub index-first-of : (κs : _) (a : _) (r r′ : _) (s s′ : _) → index-first-of-reads.Post κs a r s → index-first-of-reads.Post κs a r′ s′ → r ≡ r′
+index-first-of κs a r r′ s s′ p q = p .0 ∙ sym (q .0)
+
+pub index-next-of : (κs : _) (a : _) (r r′ : _) (s s′ : _) → index-next-of-reads.Post κs a r s → index-next-of-reads.Post κs a r′ s′ → r ≡ r′
+index-next-of κs a r r′ s s′ p q = p .0 ∙ sym (q .0)
 
 pub index-is-supposed : (κs : _) (a : _) (r r′ : _) (s s′ : _) → index-is-supposed-reads.Post κs a r s → index-is-supposed-reads.Post κs a r′ s′ → r ≡ r′
 index-is-supposed κs a r r′ s s′ p q = p ∙ sym q

@@ -10,24 +10,18 @@ use Rattle.branch.proofs.MemoLaws.{entry-here}
 add-result : tie.Need-add-result
 add-result c = search needs
 
-add-result-2 : tie.Need-add-result-2
-add-result-2 c = search needs
-
-add-result-3 : tie.Need-add-result-3
-add-result-3 c = search needs
-
 mul-result : tie.Need-mul-result
 mul-result c = search needs
 
-add-result-4 : tie.Need-add-result-4
-add-result-4 c = search needs
+add-result-2 : tie.Need-add-result-2
+add-result-2 c = search needs
 
 cast-result : tie.Need-cast-result
 cast-result c = search needs
 
 returns : tie.Need-returns
-returns c = entry-here _ _ _ (omega (arith, c .pre))
+returns c = entry-here _ _
 
 pub entry-at-spec : {M : Type 1} → statement M
 entry-at-spec =
-    tie.close (tie.spec add-result add-result-2 add-result-3 mul-result add-result-4 cast-result returns)
+    tie.close (tie.spec add-result mul-result add-result-2 cast-result returns)

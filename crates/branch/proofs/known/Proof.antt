@@ -56,21 +56,18 @@ add-if2-2 c = search needs
 returns-2 : tie.Need-returns-2
 returns-2 c = (omega arith, λ h. absurd (omega arith))
 
-add-v : tie.Need-add-v
-add-v c = omega (arith, c .before .before .before .before .entry-at .ensures .1, c .before .before .before .before .before .before .before .before .pre .0 .0)
+add-result : tie.Need-add-result
+add-result c = omega (arith, c .before .before .before .before .entry-at .ensures .1, c .before .before .before .before .before .before .before .before .pre .0 .0)
 
-mul-v : tie.Need-mul-v
-mul-v c = omega (arith, c .before .before .before .before .entry-at .ensures .1, c .before .before .before .before .before .before .before .before .pre .0 .0)
+mul-result : tie.Need-mul-result
+mul-result c = omega (arith, c .before .before .before .before .entry-at .ensures .1, c .before .before .before .before .before .before .before .before .pre .0 .0)
 
-shared-slice-read-v : tie.Need-shared-slice-read-v
-shared-slice-read-v c = omega (arith, c .before .before .before .before .before .entry-at .ensures .1, c .before .before .before .before .before .before .before .before .before .pre .0 .0)
+shared-slice-read-result : tie.Need-shared-slice-read-result
+shared-slice-read-result c = omega (arith, c .before .before .before .before .before .entry-at .ensures .1, c .before .before .before .before .before .before .before .before .before .pre .0 .0)
 
 returns-3 : tie.Need-returns-3
-returns-3 c = (omega arith, λ h. absurd (omega arith))
-
-returns-4 : tie.Need-returns-4
-returns-4 c = let p = c .before .before .before .before .before .before .before .before .before .before .pre in (omega arith, λ h. known-finds (p .1 .1) (p .0 .1) (p .0 .2) refl (c .before .before .before .before .before .before .entry-at .ensures .0) (c .before .before .before .before .if1 .left) (c .before .before .if2 .left) (p .0 .6) refl (c .if3 .left) h)
+returns-3 c = let p = c .before .before .before .before .before .before .before .before .before .pre in (omega arith, λ h. known-finds (p .1 .1) (p .0 .1) (p .0 .2) refl (c .before .before .before .before .before .entry-at .ensures .0) (c .before .before .before .if1 .left) (c .before .if2 .left) (p .0 .5) h)
 
 pub known-spec : {M : Type 1} → statement M
 known-spec =
-    tie.close (tie.spec mul-mark add-mark add-mark-2 cast-mark mul-mark-2 shared-slice-read-mark entry-at-requires mul-if1 shared-slice-read-if1 returns add-if2 mul-if2 shared-slice-read-if2 mul-if2-2 add-if2-2 returns-2 add-v mul-v shared-slice-read-v returns-3 returns-4)
+    tie.close (tie.spec mul-mark add-mark add-mark-2 cast-mark mul-mark-2 shared-slice-read-mark entry-at-requires mul-if1 shared-slice-read-if1 returns add-if2 mul-if2 shared-slice-read-if2 mul-if2-2 add-if2-2 returns-2 add-result mul-result shared-slice-read-result returns-3)

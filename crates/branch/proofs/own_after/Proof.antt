@@ -32,7 +32,7 @@ field-requires-2 c κs = let p = c .before .before .before .pre in (p .0, (last-
 -- src/lib.rt:180:9
 match-after-requires : tie.Need-match-after-requires
 unfolding records lastRecord
-match-after-requires c κs = let p = c .before .before .before .before .pre in let x = own-run-ready _ (p .0) _ (p .1 .0 .0) _ _ _ refl _ (p .1 .0 .1) (p .1 .0 .2) (c .before .field .ensures .0) (c .field2 .ensures .0) in let y = own-match-here _ (p .0) _ (p .1 .0 .0) _ _ _ refl _ _ _ (p .1 .1) (c .before .field .ensures .0) (c .field2 .ensures .0) in (p .0, (x .0, ((y .0, x .1 .0 .0, x .1 .0 .1, x .1 .0 .2), (x .1 .1, y .1))))
+match-after-requires c κs = let p = c .before .before .before .before .pre in let x = own-run-ready _ (p .0) _ (p .1 .0 .0) _ _ _ refl _ (p .1 .0 .1) (p .1 .0 .2) (c .before .field .ensures .0) (c .field2 .ensures .0) in let y = own-match-here _ (p .0) _ (p .1 .0 .0) _ _ _ refl _ _ _ (p .1 .1 .1) (c .before .field .ensures .0) (c .field2 .ensures .0) in (p .0, (x .0, ((y .0, x .1 .0 .0, x .1 .0 .1, x .1 .0 .2), (x .1 .1, (p .1 .1 .0, y .1)))))
 
 -- src/lib.rt:182:9
 returns : tie.Need-returns

@@ -51,20 +51,14 @@ mul-ws-3 c = omega (arith, c .entry-at .ensures .1, c .before .before .before .p
 slice-write-ws-2 : tie.Need-slice-write-ws-2
 slice-write-ws-2 c = simp length-set (omega (arith, c .entry-at .ensures .1, c .before .before .before .pre))
 
-mul-ws-4 : tie.Need-mul-ws-4
-mul-ws-4 c = search needs
-
 add-ws-3 : tie.Need-add-ws-3
 add-ws-3 c = search needs
 
 add-ws-4 : tie.Need-add-ws-4
-add-ws-4 c = search needs
+add-ws-4 c = omega (arith, c .entry-at .ensures .1, c .before .before .before .pre)
 
-add-ws-5 : tie.Need-add-ws-5
-add-ws-5 c = omega (arith, c .entry-at .ensures .1, c .before .before .before .pre)
-
-mul-ws-5 : tie.Need-mul-ws-5
-mul-ws-5 c = omega (arith, c .entry-at .ensures .1, c .before .before .before .pre)
+mul-ws-4 : tie.Need-mul-ws-4
+mul-ws-4 c = omega (arith, c .entry-at .ensures .1, c .before .before .before .pre)
 
 slice-write-ws-3 : tie.Need-slice-write-ws-3
 slice-write-ws-3 c = simp length-set (omega (arith, c .entry-at .ensures .1, c .before .before .before .pre))
@@ -73,8 +67,8 @@ same-length : tie.Need-same-length
 same-length c = search needs
 
 returns : tie.Need-returns
-returns c = memo-words _ _ _ _ _ _ _ (c .entry-at .ensures .0)
+returns c = memo-words _ _ _ _ _ _ (c .entry-at .ensures .0)
 
 pub remember-spec : {M : Type 1} → statement M
 remember-spec =
-    tie.close (tie.spec mul-mark add-mark add-mark-2 cast-mark mul-mark-2 slice-read-mark entry-at-requires mul-ws slice-write-ws mul-ws-2 add-ws add-ws-2 mul-ws-3 slice-write-ws-2 mul-ws-4 add-ws-3 add-ws-4 add-ws-5 mul-ws-5 slice-write-ws-3 same-length returns)
+    tie.close (tie.spec mul-mark add-mark add-mark-2 cast-mark mul-mark-2 slice-read-mark entry-at-requires mul-ws slice-write-ws mul-ws-2 add-ws add-ws-2 mul-ws-3 slice-write-ws-2 add-ws-3 add-ws-4 mul-ws-4 slice-write-ws-3 same-length returns)

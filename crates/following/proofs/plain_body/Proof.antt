@@ -42,7 +42,7 @@ returns-3 c = let p = c .before .before .before .before .before .before .before 
 
 -- src/lib.rt:54:9
 match-after-requires : tie.Need-match-after-requires
-match-after-requires c κs = let p = c .before .before .before .before .before .before .before .before .before .pre in let x = run-ready _ (p .1 .0 .0) (p .1 .0 .1) _ _ (p .1 .1 .0 .0) (p .1 .1 .0 .1) _ (p .1 .1 .1 .1) (p .1 .0 .2) in (p .0, (x .0, ((c .if3 .left, x .1 .0 .0, x .1 .0 .1, x .1 .0 .2), (x .1 .1, matches-here _ (p .1 .0 .0) (p .1 .0 .1) _ _ (p .1 .1 .0 .0) (p .1 .1 .0 .1) _ _ (c .before .first-match .ensures) (c .if3 .left)))))
+match-after-requires c κs = let p = c .before .before .before .before .before .before .before .before .before .pre in let x = run-ready _ (p .1 .0 .0) (p .1 .0 .1) _ _ (p .1 .1 .0 .0) (p .1 .1 .0 .1) _ (p .1 .1 .1 .1) (p .1 .0 .2) in (p .0, (x .0, ((c .if3 .left, x .1 .0 .0, x .1 .0 .1, x .1 .0 .2), (x .1 .1, ((c .before .before .field3 .ensures .1, omega arith), matches-here _ (p .1 .0 .0) (p .1 .0 .1) _ _ (p .1 .1 .0 .0) (p .1 .1 .0 .1) _ _ (c .before .first-match .ensures) (c .if3 .left))))))
 
 -- src/lib.rt:56:9
 returns-4 : tie.Need-returns-4

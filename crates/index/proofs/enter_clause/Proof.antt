@@ -73,7 +73,7 @@ returns : tie.Need-returns
 returns c =
     let g = c .before .before .before .before .before .before .before .before .before .before .before .before .before .before .before in
     enter-written _ _ _ _ _ _ _ _ (g .before .before .before .before .field .ensures .0) (g .before .before .before .field2 .ensures .0) (g .before .before .field3 .ensures .0) (g .before .field4 .ensures .0)
-    _ _ _ _ _ _ _ (g .small-bucket .ensures .0) (c .before .before .before .before .before .before .before .before .before .before .before .before .before .note-of .ensures) (c .before .before .before .before .before .before .before .before .before .before .before .note .ensures)
+    _ _ _ _ _ _ _ _ (g .small-bucket .ensures .0) (c .before .before .before .before .before .before .before .before .before .before .before .before .before .note-of .ensures) (c .before .before .before .before .before .before .before .before .before .before .before .note .ensures)
     (c .before .before .before .before .before .before .before .note2 .ensures) (c .before .before .before .head-bucket .ensures .0) (c .before .before .mark .ensures)
 
 pub enter-clause-spec : {M : Type 1} → statement M

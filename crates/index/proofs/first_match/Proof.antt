@@ -25,7 +25,7 @@ shared-slice-read-j : tie.Need-shared-slice-read-j
 shared-slice-read-j c = let p = c .before .before .before .before .pre in omega (arith, c .before .head-bucket .ensures .1, p .1 .1 .0 .2)
 
 match-along-requires : tie.Need-match-along-requires
-match-along-requires c κs = let p = c .before .before .before .before .pre in let h = c .before .head-bucket .ensures in (p .0, (p .1 .0, (p .1 .1 .0, (p .1 .1 .1 .0, first-bucket _ _ _ _ (p .1 .1 .1 .0) _ (h .1) _ _ (h .0)))))
+match-along-requires c κs = let p = c .before .before .before .before .pre in let h = c .before .head-bucket .ensures in (p .0, (p .1 .0, (p .1 .1 .0, (p .1 .1 .1 .0, (p .1 .1 .1 .1, first-bucket _ _ _ _ (p .1 .1 .1 .0) _ (h .1) _ _ (h .0))))))
 
 returns : tie.Need-returns
 returns c = let p = c .before .before .before .before .before .pre in let h = c .before .before .head-bucket .ensures in first-skips _ _ _ _ (p .1 .1 .1 .0) _ (h .1) _ _ (h .0) _ (c .match-along .ensures)

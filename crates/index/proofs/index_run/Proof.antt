@@ -14,10 +14,10 @@ use Rattle.index.proofs.empty_run.Reads as empty-run-reads
 use Rattle.index.proofs.enter_clause.Reads as enter-clause-reads
 
 abbrev Inv-loop : tie.InvT-loop
-Inv-loop book ws₀ first n i₀ ws i = (i ≤ n) × (length ws ≡ 16384) × ((ws₁ : List ℕ) → ws₀ ≡ emptyRun first n n ws₁ → ws ≡ runWords book first n (n - i) ws₁)
+Inv-loop book ws₀ s first n i₀ ws i = (i ≤ n) × (length ws ≡ 16384) × ((ws₁ : List ℕ) → ws₀ ≡ emptyRun first n n ws₁ → ws ≡ runWords book s first n (n - i) ws₁)
 
 abbrev μ-loop : tie.MeasureT-loop
-μ-loop book ws₀ first n i₀ ws i = i
+μ-loop book ws₀ s first n i₀ ws i = i
 
 -- src/lib.rt:239:5
 empty-run-requires : tie.Need-empty-run-requires Inv-loop μ-loop
@@ -25,7 +25,7 @@ empty-run-requires c κs = let p = c .before .before .before .pre .1 .1 in (p .1
 
 -- src/lib.rt:241:5
 loop-holds : tie.Need-loop-holds Inv-loop μ-loop
-loop-holds c = (omega arith, search needs, λ ws₁ e. run-none _ _ _ ws₁ _ e)
+loop-holds c = (omega arith, search needs, λ ws₁ e. run-none _ _ _ _ ws₁ _ e)
 
 -- src/lib.rt:242:9
 sub-i : tie.Need-sub-i Inv-loop μ-loop
@@ -43,7 +43,7 @@ loop-less c = omega (arith, c .before .before .before .before .loop-test .taken)
 loop-again : tie.Need-loop-again Inv-loop μ-loop
 loop-again c =
     let i = c .before .before .before .before .before .loop .inv in
-    (omega (arith, i .0), search needs, λ ws₁ e. run-more _ _ _ ws₁ _ _ _ (c .before .before .before .before .loop-test .taken) (i .0) (i .2 ws₁ e) (c .before .before .enter-clause .ensures))
+    (omega (arith, i .0), search needs, λ ws₁ e. run-more _ _ _ _ ws₁ _ _ _ (c .before .before .before .before .loop-test .taken) (i .0) (i .2 ws₁ e) (c .before .before .enter-clause .ensures))
 
 -- src/lib.rt:233:1
 same-length : tie.Need-same-length Inv-loop μ-loop
@@ -51,7 +51,7 @@ same-length c = search needs
 
 -- src/lib.rt:233:1
 returns : tie.Need-returns Inv-loop μ-loop
-returns c = let i = c .before .loop .inv in run-all _ _ _ _ _ _ (c .loop-test .left) (i .2 _ (c .before .before .before .before .empty-run .ensures))
+returns c = let i = c .before .loop .inv in run-all _ _ _ _ _ _ _ (c .loop-test .left) (i .2 _ (c .before .before .before .before .empty-run .ensures))
 
 pub index-run-spec : {M : Type 1} → statement M
 index-run-spec =

@@ -2,8 +2,9 @@ use native.Mathlib.Omega.{arith}
 use borrow.Author.Needs.{needs}
 use native.Mathlib.Nat.{le-antisymm}
 use mathlib.Core.Path.{_≡_, refl, sym, _∙_}
-use Prim.Native.Nat.{_+_, _-_, _≤_}
+use Prim.Native.Nat.{_+_, _-_, _≤_, _<_}
 use lib.ListN.{length, length-set}
+use Rattle.words.proofs.ReadLaws.{in-book}
 use Rattle.index.specs.Index.{IndexedFrom}
 use Rattle.index.proofs.IndexLaws.{made-none, made-more, made-from}
 use Rattle.index.proofs.make_index.Statement.{statement}
@@ -19,6 +20,13 @@ Inv-loop book ws₀ first n i₀ ws i = (i ≤ n) × (length ws ≡ 16384) × In
 
 abbrev μ-loop : tie.MeasureT-loop
 μ-loop book ws₀ first n i₀ ws i = i
+
+-- the clause's record is below 4,096
+clause-small : (c : tie.After-field Inv-loop μ-loop) → c .field .result < 4096
+clause-small c =
+    let p = c .before .before .before .before .before .before .before .before .before .before .before .pre in
+    let k = p .1 .0 (c .before .before .before .before .loop .i - 1) (omega (arith, c .before .before .before .before .loop .inv .0, c .before .before .before .loop-test .taken)) .1 in
+    rw (c .field .ensures .0) (in-book _ (p .0) _ k .1)
 
 -- src/lib.rt:75:5
 empty-index-requires : tie.Need-empty-index-requires Inv-loop μ-loop
@@ -78,11 +86,11 @@ slice-write-ws c = let p = c .before .before .before .before .before .before .be
 
 -- src/lib.rt:84:18
 mul-ws-2 : tie.Need-mul-ws-2 Inv-loop μ-loop
-mul-ws-2 c = omega (arith, c .field .ensures .1)
+mul-ws-2 c = omega (arith, clause-small c)
 
 -- src/lib.rt:84:18
 add-ws-2 : tie.Need-add-ws-2 Inv-loop μ-loop
-add-ws-2 c = let p = c .before .before .before .before .before .before .before .before .before .before .before .pre in omega (arith, c .field .ensures .1, p .1 .1 .1, c .before .before .before .before .loop .inv .0)
+add-ws-2 c = omega (arith, clause-small c, c .before .before .before .before .before .before .before .before .before .before .before .pre .1 .1 .1, c .before .before .before .before .loop .inv .0)
 
 -- src/lib.rt:84:9
 mul-ws-3 : tie.Need-mul-ws-3 Inv-loop μ-loop

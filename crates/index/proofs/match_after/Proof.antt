@@ -26,11 +26,11 @@ shared-slice-read-j c = search needs
 
 -- src/lib.rt:130:5
 match-along-requires : tie.Need-match-along-requires
-match-along-requires c κs = let p = c .before .before .before .pre in (p .0, (p .1 .0, ((p .1 .1 .0 .1, p .1 .1 .0 .2, p .1 .1 .0 .3), (p .1 .1 .1 .0, next-bucket _ _ _ _ (p .1 .1 .1 .0) _ _ _ (p .1 .1 .0 .0) (matching-bucket _ _ _ _ _ _ (p .1 .1 .1 .1))))))
+match-along-requires c κs = let p = c .before .before .before .pre in (p .0, (p .1 .0, ((p .1 .1 .0 .1, p .1 .1 .0 .2, p .1 .1 .0 .3), (p .1 .1 .1 .0, (p .1 .1 .1 .1 .0, next-bucket _ _ _ _ (p .1 .1 .1 .0) _ _ _ (p .1 .1 .0 .0) (matching-bucket _ _ _ _ _ _ (p .1 .1 .1 .1 .1)))))))
 
 -- src/lib.rt:121:1
 returns : tie.Need-returns
-returns c = let p = c .before .before .before .before .pre in c .match-along .ensures ∙ next-skips _ _ _ _ (p .1 .1 .1 .0) _ _ _ (p .1 .1 .0 .0) (matching-bucket _ _ _ _ _ _ (p .1 .1 .1 .1))
+returns c = let p = c .before .before .before .before .pre in c .match-along .ensures ∙ next-skips _ _ _ _ (p .1 .1 .1 .0) _ _ _ (p .1 .1 .0 .0) (matching-bucket _ _ _ _ _ _ (p .1 .1 .1 .1 .1))
 
 pub match-after-spec : {M : Type 1} → statement M
 match-after-spec =

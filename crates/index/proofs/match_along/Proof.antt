@@ -21,7 +21,7 @@ abbrev μ-loop : tie.MeasureT-loop
 
 -- src/lib.rt:98:5
 loop-holds : tie.Need-loop-holds Inv-loop μ-loop
-loop-holds c = (c .before .before .pre .1 .1 .1 .1, refl)
+loop-holds c = (c .before .before .pre .1 .1 .1 .1 .1, refl)
 
 -- src/lib.rt:99:36
 add-field : tie.Need-add-field Inv-loop μ-loop
@@ -33,7 +33,7 @@ field-requires c κs = let p = c .before .before .before .before .pre in (p .0, 
 
 -- src/lib.rt:100:12
 head-matches-requires : tie.Need-head-matches-requires Inv-loop μ-loop
-head-matches-requires c κs = let p = c .before .before .before .before .before .pre in let x = p .1 .0 _ (c .before .loop-test .taken) in (p .0, rw (c .field .ensures .0) (x .1, x .2))
+head-matches-requires c κs = let p = c .before .before .before .before .before .pre in let x = p .1 .0 _ (c .before .loop-test .taken) in (p .0, (rw (c .field .ensures .0) (x .1, x .2), p .1 .1 .1 .1 .0))
 
 -- src/lib.rt:101:13
 returns : tie.Need-returns Inv-loop μ-loop

@@ -24,7 +24,7 @@ abbrev μ-loop : tie.MeasureT-loop
 
 -- src/lib.rt:299:5
 loop-holds : tie.Need-loop-holds Inv-loop μ-loop
-loop-holds c = (c .before .before .pre .1 .1 .1 .1, refl)
+loop-holds c = (c .before .before .pre .1 .1 .1 .1 .1, refl)
 
 -- src/lib.rt:300:36
 add-field : tie.Need-add-field Inv-loop μ-loop
@@ -36,7 +36,7 @@ field-requires c κs = let p = c .before .before .before .before .pre in (p .0, 
 
 -- src/lib.rt:301:12
 head-matches-requires : tie.Need-head-matches-requires Inv-loop μ-loop
-head-matches-requires c κs = let p = c .before .before .before .before .before .pre in let x = p .1 .0 _ (c .before .loop-test .taken) in (p .0, rw (c .field .ensures .0) (x .1, x .2))
+head-matches-requires c κs = let p = c .before .before .before .before .before .pre in let x = p .1 .0 _ (c .before .loop-test .taken) in (p .0, (rw (c .field .ensures .0) (x .1, x .2), p .1 .1 .1 .1 .0))
 
 -- src/lib.rt:302:13
 returns : tie.Need-returns Inv-loop μ-loop
@@ -48,11 +48,11 @@ note-of-requires c κs = let p = c .before .before .before .before .before .befo
 
 -- src/lib.rt:299:5
 loop-less : tie.Need-loop-less Inv-loop μ-loop
-loop-less c = let p = c .before .before .before .before .before .before .before .before .pre .1 .1 in let i = c .before .before .before .before .before .loop .inv in let h = c .before .before .before .before .loop-test .taken in omega (arith, noted-later _ _ _ _ (p .1 .0) _ _ _ _ h (c .before .before .before .field .ensures .0) (i .0 .bucket h), c .note-of .ensures, h)
+loop-less c = let p = c .before .before .before .before .before .before .before .before .pre .1 .1 in let i = c .before .before .before .before .before .loop .inv in let h = c .before .before .before .before .loop-test .taken in omega (arith, noted-later _ _ _ _ (p .1 .0) _ _ _ _ _ h (c .before .before .before .field .ensures .0) (i .0 .bucket h) (c .note-of .ensures), h)
 
 -- src/lib.rt:299:5
 loop-again : tie.Need-loop-again Inv-loop μ-loop
-loop-again c = let p = c .before .before .before .before .before .before .before .before .pre .1 .1 in let i = c .before .before .before .before .before .loop .inv in let h = c .before .before .before .before .loop-test .taken in let e = c .before .before .before .field .ensures .0 in let b = i .0 .bucket h in rw (c .note-of .ensures) (noted-bucket _ _ _ _ (p .1 .0) _ _ _ _ h e b, noted-skips _ _ _ _ (p .1 .0) _ _ _ _ h e b ∙ sym (next-on _ _ _ _ _ _ _ _ h e (c .before .before .head-matches .ensures) (c .before .if1 .left)) ∙ i .1)
+loop-again c = let p = c .before .before .before .before .before .before .before .before .pre .1 .1 in let i = c .before .before .before .before .before .loop .inv in let h = c .before .before .before .before .loop-test .taken in let e = c .before .before .before .field .ensures .0 in let b = i .0 .bucket h in let v = c .note-of .ensures in (noted-bucket _ _ _ _ (p .1 .0) _ _ _ _ _ h e b v, noted-skips _ _ _ _ (p .1 .0) _ _ _ _ _ h e b v ∙ sym (next-on _ _ _ _ _ _ _ _ h e (c .before .before .head-matches .ensures) (c .before .if1 .left)) ∙ i .1)
 
 -- src/lib.rt:290:1
 returns-2 : tie.Need-returns-2 Inv-loop μ-loop

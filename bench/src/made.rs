@@ -28,6 +28,7 @@ pub fn rows() -> Vec<Row> {
         Row { name: "64 others made anew", book: others_made_anew() },
         Row { name: "the last of 64 made anew", book: last_made_anew() },
         Row { name: "512 predicates in turn, 8 x 64", book: in_turn() },
+        Row { name: "heads of one bucket", book: one_bucket() },
         kept!("deep ground terms", "e_deep-2"),
         kept!("bushy ground terms", "e_tree-2"),
         kept!("chain of 64", "f_chain-0"),
@@ -135,6 +136,17 @@ fn in_turn() -> Vec<u8> {
         if from == middle { atom(from, &[]) } else { or(any(from, middle), any(middle, to)) }
     }
     asked(others(8, 64, false, and(atom(K, &[variable(0)]), and(any(0, 512), atom(NONE, &[])))))
+}
+
+/// Four goals of a predicate of one clause, 256 times over, behind 500 facts of another that the proved engine's index puts into the same bucket.
+fn one_bucket() -> Vec<u8> {
+    let mut clauses: Vec<_> = (0..500).map(|c| fact(100, &[term(c, &[])])).collect();
+    clauses.extend(rules());
+    clauses.push(fact(164, &[]));
+    let k = |u| atom(K, &[variable(u)]);
+    let one = || atom(164, &[]);
+    let four = and(one(), and(one(), and(one(), and(one(), atom(NONE, &[])))));
+    Question { clauses, goal: and(k(0), and(k(1), four)), unknowns: 2 }.book()
 }
 
 /// The same book with an unknown out of scope: every test is made over the whole book, the last fails.

@@ -1,19 +1,22 @@
 -- Laws of the index of the question's own run: the code makes it, it is kept with its words, and the search goes along it.
 use mathlib.Core.Path.{_≡_, refl, sym, _∙_, ap}
 use mathlib.Core.Logic.{_⊎_, inl, inr}
+use mathlib.Core.Bool.{true, false}
 use mathlib.Core.List.{List}
 use Prim.Native.Nat.{ℕ, zero, suc, _+_, _-_, _*_, _/_, _%_, _≤_, _<_}
 use native.Mathlib.Omega.{arith}
-use native.Mathlib.Decide.{decLt}
+use native.Mathlib.Decide.{decLt, ℕ-discrete}
 use borrow.Author.Tests.{lt-ltb, le-ltb}
 use lib.ListN.{length, getD, set, length-set}
 use lib.Seq.{getD-set-same, getD-set-other}
 use Rattle.book.specs.Records.{field}
 use Rattle.words.specs.Frame.{Keeps}
 use Rattle.words.proofs.StackLaws.{keeps-refl, keeps-trans, keeps-narrow, keeps-set}
-use Rattle.index.specs.Runs.{nextMatch}
-use Rattle.index.specs.Index.{headBucket, bucketOf, nextIn, entryOf, Indexed, EmptyFrom, IndexedFrom, InBucket}
-use Rattle.index.proofs.BucketLaws.{in-bounds, in-other, in-this, skip-within, skip-same}
+use Rattle.index.specs.Runs.{headMatches, nextMatch}
+use Rattle.index.specs.Index.{headBucket, bucketOf, startOf, isLast, nextLast, lastMatch, linkOr, wordOf, entryOf, Listed, Indexed, EmptyFrom, IndexedFrom}
+use Rattle.index.proofs.BucketLaws.{matching-bucket}
+use Rattle.index.proofs.ListLaws.{such-none, start-is, start-bounds, last-bounds, last-found, last-none, last-here, last-past, none-matches, list-skips, list-bounds, list-found, list-here, list-other, list-past}
+use Rattle.index.proofs.ListLaws.{word-last, word-not, link-some, link-none, link-small, word-link, word-start, word-same, start-here, word-keep, last-one, same-next, not-the-last, the-last, none-other}
 
 -- THE WORD OF A CLAUSE
 module _ (book : List ℕ) (first n : ℕ) where
@@ -52,9 +55,8 @@ empty-more n b ws ws₁ h l E = record {
 
 -- MAKING
 pub made-none : (book : List ℕ) (first n : ℕ) (ws ws₁ : List ℕ) → EmptyFrom n 1024 ws ws₁ → IndexedFrom book first n n ws₁ ws₁
-unfolding nextIn
 made-none book first n ws ws₁ E = record {
-  firsts = λ b h. E .firsts b h ∙ (let z : n - n ≡ 0 = omega arith in rw z (entry-none book first n));
+  firsts = λ b h. E .firsts b h ∙ entry-none book first n ∙ ap (entryOf book first n) (sym (such-none _ n n (omega arith)));
   nexts = λ j a b. absurd (omega arith);
   below = keeps-refl 0 4096 ws₁;
   between = keeps-refl 5120 (5120 + n) ws₁;
@@ -71,109 +73,250 @@ made-from book first n zero ws ws₁ ws₂ z E I = record {
 }
 made-from book first n (suc i) ws ws₁ ws₂ z E I = absurd (omega arith)
 
-module _ (book : List ℕ) (first n i : ℕ) (ws ws₁ : List ℕ) (l : length ws ≡ 16384) (m : n ≤ 1024) (h : i < n)
-    (I : IndexedFrom book first n (i + 1) ws ws₁) (b : ℕ) (e : b ≡ bucketOf headBucket book first i) (c : b < 1024) (v : ℕ) (ve : v ≡ field book (first + i) 1) where
-  size-here : length ws₁ ≡ 16384
-  size-here = I .below .size ∙ l
+-- the words, whatever they were before
+pub made-here : (book : List ℕ) (first n i : ℕ) (ws ws₁ : List ℕ) → IndexedFrom book first n i ws ws₁ → IndexedFrom book first n i ws₁ ws₁
+made-here book first n i ws ws₁ I = record {
+  firsts = I .firsts;
+  nexts = I .nexts;
+  below = keeps-refl 0 4096 ws₁;
+  between = keeps-refl 5120 (5120 + i) ws₁;
+  above = keeps-refl (5120 + n) 16384 ws₁;
+}
 
-  abbrev one : List ℕ
-  one = set ws₁ (5120 + i) (getD ws₁ (4096 + b) 0 % 2048)
+-- one more clause entered
+pub made-more : (book : List ℕ) (first n i : ℕ) (ws ws₁ ws₂ : List ℕ) → IndexedFrom book first n (i + 1) ws ws₁ → IndexedFrom book first n i ws₁ ws₂ → IndexedFrom book first n i ws ws₂
+made-more book first n i ws ws₁ ws₂ I J = record {
+  firsts = J .firsts;
+  nexts = J .nexts;
+  below = keeps-trans (I .below) (J .below);
+  between = keeps-trans (keeps-narrow (omega arith) (omega arith) (I .between)) (J .between);
+  above = keeps-trans (I .above) (J .above);
+}
 
-  abbrev two : List ℕ
-  two = set one (4096 + b) (1048576 * v + i)
-
-  firsts-more : (x : ℕ) → x < 1024 → getD two (4096 + x) 0 ≡ entryOf book first n (nextIn headBucket book first x i (n - i))
-  firsts-more x a = go (decLt x b) (decLt b x)
-    where
-      other : (x ≡ b → ⊥) → getD two (4096 + x) 0 ≡ entryOf book first n (nextIn headBucket book first x i (n - i))
-      other d =
-          getD-set-other one (4096 + b) (4096 + x) _ 0 (λ z. d (omega (arith, z))) ∙ getD-set-other ws₁ (5120 + i) (4096 + x) _ 0 (λ z. omega arith)
-          ∙ I .firsts x a ∙ ap (entryOf book first n) (in-other headBucket book first x i n h (λ z. d (z ∙ sym e)))
-
-      go : Dec (x < b) → Dec (b < x) → getD two (4096 + x) 0 ≡ entryOf book first n (nextIn headBucket book first x i (n - i))
-      go (yes u) v = other (λ (z : x ≡ b). omega arith)
-      go (no u) (yes v) = other (λ (z : x ≡ b). omega arith)
-      go (no u) (no v) =
-          let z : x ≡ b = omega arith in
-          rw z (getD-set-same one (4096 + b) _ 0 (simp length-set (omega (arith, size-here)))) ∙ ap (λ (z : ℕ). 1048576 * z + i) ve
-          ∙ entry-here book first n i h ∙ ap (entryOf book first n) (in-this headBucket book first x i n h (z ∙ e))
-
-  nexts-more : (j : ℕ) → i ≤ j → j < n → getD two (5120 + j) 0 ≡ nextIn headBucket book first (bucketOf headBucket book first j) (j + 1) (n - (j + 1))
-  nexts-more j u v = getD-set-other one (4096 + b) (5120 + j) _ 0 (λ z. omega arith) ∙ go (decLt i j)
-    where
-      go : Dec (i < j) → getD one (5120 + j) 0 ≡ nextIn headBucket book first (bucketOf headBucket book first j) (j + 1) (n - (j + 1))
-      go (yes w) = getD-set-other ws₁ (5120 + i) (5120 + j) _ 0 (λ z. omega arith) ∙ I .nexts j (omega arith) v
-      go (no w) =
-          let z : j ≡ i = omega arith in
-          rw z (getD-set-same ws₁ (5120 + i) _ 0 (omega (arith, size-here)) ∙ ap (λ (x : ℕ). x % 2048) (I .firsts b c)
-          ∙ entry-number book first n m _ (omega (arith, in-bounds headBucket book first b (i + 1) (n - (i + 1)) .1))
-          ∙ ap (λ (x : ℕ). nextIn headBucket book first x (i + 1) (n - (i + 1))) e)
-
-  outside : (lo hi : ℕ) → (hi ≤ 4096) ⊎ (5120 + i < lo) ⊎ ((5120 ≤ lo) × (hi ≤ 5120 + i)) → Keeps lo hi ws₁ two
-  outside lo hi (inl x) = keeps-trans (keeps-set lo hi ws₁ (5120 + i) _ (inr (omega arith))) (keeps-set lo hi one (4096 + b) _ (inr (omega arith)))
-  outside lo hi (inr (inl x)) = keeps-trans (keeps-set lo hi ws₁ (5120 + i) _ (inl x)) (keeps-set lo hi one (4096 + b) _ (inl (omega arith)))
-  outside lo hi (inr (inr x)) = keeps-trans (keeps-set lo hi ws₁ (5120 + i) _ (inr (x .1))) (keeps-set lo hi one (4096 + b) _ (inl (omega (arith, x .0))))
-
-  pub made-more : IndexedFrom book first n i ws two
-  made-more = record {
-    firsts = firsts-more;
-    nexts = nexts-more;
-    below = keeps-trans (I .below) (outside 0 4096 (inl (omega arith)));
-    between = keeps-trans (keeps-narrow (omega arith) (omega arith) (I .between)) (outside 5120 (5120 + i) (inr (inr (omega arith, omega arith))));
-    above = keeps-trans (I .above) (outside (5120 + n) 16384 (inr (inl (omega arith))));
-  }
+-- the words of the index, read as such
+pub made-list : (book : List ℕ) (first n i : ℕ) (ws ws′ : List ℕ) → n ≤ 1024 → i ≤ n → IndexedFrom book first n i ws ws′ → Listed book first n i ws′
+made-list book first n i ws ws′ m a I = record {
+  firsts = λ b h. ap (λ (x : ℕ). x % 2048) (I .firsts b h) ∙ entry-number book first n m _ (list-bounds book first n b i a .1);
+  clauses = λ b h l. ap (λ (x : ℕ). x / 1048576) (I .firsts b h) ∙ entry-clause book first n m _ l;
+  nexts = I .nexts;
+}
 
 -- from 0 on, the whole run is indexed
 pub made-all : (book : List ℕ) (first n : ℕ) (ws ws′ : List ℕ) → n ≤ 1024 → IndexedFrom book first n 0 ws ws′ → Indexed book first n ws′
-made-all book first n ws ws′ m I = record {
-  firsts = λ b h. ap (λ (x : ℕ). x % 2048) (word b h) ∙ entry-number book first n m _ (omega (arith, in-bounds headBucket book first b 0 n .1));
-  clauses = λ b h l. ap (λ (x : ℕ). x / 1048576) (word b h) ∙ entry-clause book first n m _ l;
-  nexts = λ i h. I .nexts i (omega arith) h;
-}
-  where
-    word : (b : ℕ) → b < 1024 → getD ws′ (4096 + b) 0 ≡ entryOf book first n (nextIn headBucket book first b 0 n)
-    word b h = I .firsts b h ∙ (let z : n - 0 ≡ n = omega arith in rw z refl)
+made-all book first n ws ws′ m I = made-list book first n 0 ws ws′ m (omega arith) I
+
+-- ENTERING
+module _ (book : List ℕ) (first n i f m z : ℕ) (ws : List ℕ) (l : length ws ≡ 16384) (most : n ≤ 1024) (h : i < n) (I : IndexedFrom book first n (i + 1) ws ws)
+    (e : headMatches book f m (field book (first + i) 1) ≡ true) (ze : z ≡ lastMatch book f m first n (i + 1)) where
+  -- with a clause after it that has its head
+  module _ (zl : z < n) where
+    found-head : (headMatches book f m (field book (first + z) 1) ≡ true) × (isLast book first n z ≡ true)
+    found-head = rw ze (last-found book first n f m (i + 1) (omega arith) (omega (arith, ze, zl)))
+
+    found-later : i < z
+    found-later = omega (arith, ze, last-bounds book first n f m (i + 1) (omega arith) .0)
+
+    abbrev link : ℕ
+    link = linkOr n z (nextLast book first n (bucketOf headBucket book first z) (z + 1) (n - (z + 1)))
+
+    found-word : getD ws (5120 + z) 0 ≡ 4194304 * link + 2048 * startOf book first n (i + 1) z + n
+    found-word = I .nexts z (omega (arith, found-later)) zl ∙ word-last book first n (i + 1) z (found-head .1)
+
+    found-start : getD ws (5120 + z) 0 / 2048 % 2048 ≡ startOf book first n (i + 1) z
+    found-start = omega (arith, found-word, start-bounds book first n (i + 1) z (omega arith) .1, most)
+
+    moved-word : getD ws (5120 + z) 0 - 2048 * (getD ws (5120 + z) 0 / 2048 % 2048) + 2048 * i ≡ 4194304 * link + 2048 * i + n
+    moved-word = omega (arith, found-word, start-bounds book first n (i + 1) z (omega arith) .1, most)
+
+    pub moved-small : getD ws (5120 + z) 0 - 2048 * (getD ws (5120 + z) 0 / 2048 % 2048) + 2048 * i < 4294967296
+    moved-small = omega (arith, moved-word, link-small n z (nextLast book first n (bucketOf headBucket book first z) (z + 1) (n - (z + 1))) zl, most, h)
+
+    abbrev one : List ℕ
+    one = set ws (5120 + z) (getD ws (5120 + z) 0 - 2048 * (getD ws (5120 + z) 0 / 2048 % 2048) + 2048 * i)
+
+    abbrev two : List ℕ
+    two = set one (5120 + i) (getD ws (5120 + z) 0 / 2048 % 2048)
+
+    same-firsts : (b : ℕ) → b < 1024 → getD two (4096 + b) 0 ≡ entryOf book first n (nextLast book first n b i (n - i))
+    same-firsts b a =
+        getD-set-other one (5120 + i) (4096 + b) _ 0 (λ z. omega arith) ∙ getD-set-other ws (5120 + z) (4096 + b) _ 0 (λ z. omega arith)
+        ∙ I .firsts b a ∙ ap (entryOf book first n) (sym (list-past book first n b i h (not-the-last book first n f m i h e z found-later zl (found-head .0))))
+
+    moved-nexts : (j : ℕ) → i ≤ j → j < n → getD two (5120 + j) 0 ≡ wordOf book first n i j
+    moved-nexts j u v = go (ℕ-discrete j i) (ℕ-discrete j z)
+      where
+        go : Dec (j ≡ i) → Dec (j ≡ z) → getD two (5120 + j) 0 ≡ wordOf book first n i j
+        go (yes x) y =
+            rw x (getD-set-same one (5120 + i) _ 0 (simp length-set (omega (arith, l, most, h))) ∙ found-start
+            ∙ sym (same-next book first n f m i h e z found-later zl (found-head .0)) ∙ sym (word-not book first n i i (not-the-last book first n f m i h e z found-later zl (found-head .0))))
+        go (no x) (yes y) =
+            rw y (getD-set-other one (5120 + i) (5120 + z) _ 0 (λ w. omega (arith, found-later, w)) ∙ getD-set-same ws (5120 + z) _ 0 (omega (arith, l, most, zl)) ∙ moved-word
+            ∙ ap (λ (k : ℕ). 4194304 * link + 2048 * k + n) (sym (start-here book first n f m i h e z (found-head .0))) ∙ sym (word-last book first n i z (found-head .1)))
+        go (no x) (no y) =
+            getD-set-other one (5120 + i) (5120 + j) _ 0 (λ w. x (omega (arith, w))) ∙ getD-set-other ws (5120 + z) (5120 + j) _ 0 (λ w. y (omega (arith, w)))
+            ∙ I .nexts j (omega arith) v ∙ word-keep book first n f m i h e j (λ p q. y (last-one book first n f m i h e j z v zl q p (found-head .0) (found-head .1)))
+
+    moved-outside : (lo hi : ℕ) → (hi ≤ 4096) ⊎ (5120 + n ≤ lo) ⊎ ((5120 ≤ lo) × (hi ≤ 5120 + i)) → Keeps lo hi ws two
+    moved-outside lo hi (inl x) = keeps-trans (keeps-set lo hi ws (5120 + z) _ (inr (omega arith))) (keeps-set lo hi one (5120 + i) _ (inr (omega arith)))
+    moved-outside lo hi (inr (inl x)) = keeps-trans (keeps-set lo hi ws (5120 + z) _ (inl (omega arith))) (keeps-set lo hi one (5120 + i) _ (inl (omega arith)))
+    moved-outside lo hi (inr (inr x)) = keeps-trans (keeps-set lo hi ws (5120 + z) _ (inr (omega (arith, x .1, found-later)))) (keeps-set lo hi one (5120 + i) _ (inr (x .1)))
+
+    pub entered-before : IndexedFrom book first n i ws two
+    entered-before = record {
+      firsts = same-firsts;
+      nexts = moved-nexts;
+      below = moved-outside 0 4096 (inl (omega arith));
+      between = moved-outside 5120 (5120 + i) (inr (inr (omega arith, omega arith)));
+      above = moved-outside (5120 + n) 16384 (inr (inl (omega arith)));
+    }
+
+  -- with a new head
+  module _ (zn : n ≤ z) (b k v : ℕ) (be : b ≡ headBucket f m) (bl : b < 1024) (ke : k ≡ linkOr n i (getD ws (4096 + b) 0 % 2048)) (ve : v ≡ field book (first + i) 1) where
+    new-last : isLast book first n i ≡ true
+    new-last = the-last book first n f m i h e (omega (arith, ze, zn))
+
+    bucket-here : b ≡ bucketOf headBucket book first i
+    bucket-here = be ∙ sym (matching-bucket headBucket book first f m i e)
+
+    pub new-link : k < n
+    new-link = omega (arith, ke, link-small n i (getD ws (4096 + b) 0 % 2048) h)
+
+    link-here : k ≡ linkOr n i (nextLast book first n (bucketOf headBucket book first i) (i + 1) (n - (i + 1)))
+    link-here =
+        ke ∙ ap (linkOr n i) (ap (λ (x : ℕ). x % 2048) (I .firsts b bl) ∙ entry-number book first n most _ (list-bounds book first n b (i + 1) (omega arith) .1)
+        ∙ ap (λ (x : ℕ). nextLast book first n x (i + 1) (n - (i + 1))) bucket-here)
+
+    abbrev three : List ℕ
+    three = set ws (5120 + i) (4194304 * k + 2048 * i + n)
+
+    abbrev four : List ℕ
+    four = set three (4096 + b) (1048576 * v + i)
+
+    new-firsts : (x : ℕ) → x < 1024 → getD four (4096 + x) 0 ≡ entryOf book first n (nextLast book first n x i (n - i))
+    new-firsts x a = go (ℕ-discrete x b)
+      where
+        go : Dec (x ≡ b) → getD four (4096 + x) 0 ≡ entryOf book first n (nextLast book first n x i (n - i))
+        go (yes y) =
+            rw y (getD-set-same three (4096 + b) _ 0 (simp length-set (omega (arith, l, bl))) ∙ ap (λ (w : ℕ). 1048576 * w + i) ve
+            ∙ entry-here book first n i h ∙ ap (entryOf book first n) (sym (ap (λ (w : ℕ). nextLast book first n w i (n - i)) bucket-here ∙ list-here book first n i h new-last)))
+        go (no y) =
+            getD-set-other three (4096 + b) (4096 + x) _ 0 (λ w. y (omega (arith, w))) ∙ getD-set-other ws (5120 + i) (4096 + x) _ 0 (λ w. omega arith)
+            ∙ I .firsts x a ∙ ap (entryOf book first n) (sym (list-other book first n x i h (λ w. y (w ∙ sym bucket-here))))
+
+    new-nexts : (j : ℕ) → i ≤ j → j < n → getD four (5120 + j) 0 ≡ wordOf book first n i j
+    new-nexts j u w = getD-set-other three (4096 + b) (5120 + j) _ 0 (λ q. omega arith) ∙ go (ℕ-discrete j i)
+      where
+        go : Dec (j ≡ i) → getD three (5120 + j) 0 ≡ wordOf book first n i j
+        go (yes x) =
+            rw x (getD-set-same ws (5120 + i) _ 0 (omega (arith, l, most, h)) ∙ ap (λ (q : ℕ). 4194304 * q + 2048 * i + n) link-here
+            ∙ ap (λ (q : ℕ). 4194304 * linkOr n i (nextLast book first n (bucketOf headBucket book first i) (i + 1) (n - (i + 1))) + 2048 * q + n) (sym (start-here book first n f m i h e i e))
+            ∙ sym (word-last book first n i i new-last))
+        go (no x) =
+            getD-set-other ws (5120 + i) (5120 + j) _ 0 (λ q. x (omega (arith, q)))
+            ∙ I .nexts j (omega arith) w ∙ word-keep book first n f m i h e j (λ p q. none-other book first n f m i h e (omega (arith, ze, zn)) j (omega arith) w q)
+
+    new-outside : (lo hi : ℕ) → (hi ≤ 4096) ⊎ (5120 + n ≤ lo) ⊎ ((5120 ≤ lo) × (hi ≤ 5120 + i)) → Keeps lo hi ws four
+    new-outside lo hi (inl x) = keeps-trans (keeps-set lo hi ws (5120 + i) _ (inr (omega arith))) (keeps-set lo hi three (4096 + b) _ (inr (omega arith)))
+    new-outside lo hi (inr (inl x)) = keeps-trans (keeps-set lo hi ws (5120 + i) _ (inl (omega arith))) (keeps-set lo hi three (4096 + b) _ (inl (omega arith)))
+    new-outside lo hi (inr (inr x)) = keeps-trans (keeps-set lo hi ws (5120 + i) _ (inr (x .1))) (keeps-set lo hi three (4096 + b) _ (inl (omega (arith, x .0))))
+
+    pub entered-new : IndexedFrom book first n i ws four
+    entered-new = record {
+      firsts = new-firsts;
+      nexts = new-nexts;
+      below = new-outside 0 4096 (inl (omega arith));
+      between = new-outside 5120 (5120 + i) (inr (inr (omega arith, omega arith)));
+      above = new-outside (5120 + n) 16384 (inr (inl (omega arith)));
+    }
 
 -- the index is kept with its words
 pub indexed-same : (book : List ℕ) (first n : ℕ) {ws ws′ : List ℕ} → n ≤ 1024 → Keeps 4096 6144 ws ws′ → Indexed book first n ws → Indexed book first n ws′
 indexed-same book first n m K I = record {
   firsts = λ b h. ap (λ (x : ℕ). x % 2048) (K .same (4096 + b) (omega arith) (omega arith)) ∙ I .firsts b h;
   clauses = λ b h l. ap (λ (x : ℕ). x / 1048576) (K .same (4096 + b) (omega arith) (omega arith)) ∙ I .clauses b h l;
-  nexts = λ i h. K .same (5120 + i) (omega arith) (omega arith) ∙ I .nexts i h;
+  nexts = λ i a h. K .same (5120 + i) (omega arith) (omega arith) ∙ I .nexts i a h;
 }
 
--- THE CODE'S STEPS ALONG THE INDEX
-module _ (book : List ℕ) (first n : ℕ) (ws : List ℕ) (I : Indexed book first n ws) where
-  module _ (b : ℕ) (c : b < 1024) where
-    -- the number in the bucket's word
-    first-is : getD ws (4096 + b) 0 % 2048 ≡ nextIn headBucket book first b 0 (n - 0)
-    first-is = let z : n - 0 ≡ n = omega arith in I .firsts b c ∙ rw z refl
+-- THE SEARCH FOR A HEAD, along its bucket's list
 
-    module _ (f m : ℕ) (e : b ≡ headBucket f m) where
-      first-of : getD ws (4096 + b) 0 % 2048 ≡ nextIn headBucket book first (headBucket f m) 0 (n - 0)
-      first-of = first-is ∙ ap (λ (x : ℕ). nextIn headBucket book first x 0 (n - 0)) e
+-- number z stands in the list, or is n, and the last clause with the head is not before it
+pub record OnList (book : List ℕ) (first n f m i z : ℕ) : Type 0 where
+  pub lower : i ≤ z
+  pub within : z ≤ n
+  pub node : z < n → (bucketOf headBucket book first z ≡ headBucket f m) × (isLast book first n z ≡ true)
+  pub rest : lastMatch book f m first n z ≡ lastMatch book f m first n i
 
-      pub first-bucket : InBucket headBucket book first n (headBucket f m) (getD ws (4096 + b) 0 % 2048)
-      first-bucket = skip-within headBucket book first n 0 _ (omega arith) (headBucket f m) first-of
+module _ (book : List ℕ) (first n f m i : ℕ) where
+  -- wherever the list goes on
+  on-list : (k z : ℕ) → i ≤ k → k ≤ n → z ≡ nextLast book first n (headBucket f m) k (n - k) → lastMatch book f m first n k ≡ lastMatch book f m first n i → OnList book first n f m i z
+  on-list k z a h e d =
+      let x = list-bounds book first n (headBucket f m) k h in record {
+        lower = omega (arith, e, x .0);
+        within = omega (arith, e, x .1);
+        node = λ l. rw e (list-found book first n (headBucket f m) k h (omega (arith, e, l)));
+        rest = rw e (list-skips book first n f m k h) ∙ d;
+      }
 
-      pub first-skips : (r : ℕ) → r ≡ nextMatch book f m first (getD ws (4096 + b) 0 % 2048) (n - getD ws (4096 + b) 0 % 2048) → r ≡ nextMatch book f m first 0 n
-      first-skips r d = let z : n - 0 ≡ n = omega arith in d ∙ skip-same headBucket book first n 0 _ (omega arith) f m first-of ∙ rw z refl
+  pub list-here-found : (z c : ℕ) (t : _) → OnList book first n f m i z → z < n → c ≡ field book (first + z) 1 → t ≡ headMatches book f m c → t ≡ true → z ≡ lastMatch book f m first n i
+  list-here-found z c t O h e p q =
+      let y : headMatches book f m (field book (first + z) 1) ≡ true = rw (← e) (sym p ∙ q) in sym (last-here book first n f m z h y (O .node h .1)) ∙ O .rest
 
-    -- and the record, if it is the clause's
-    pub first-record : (i : ℕ) → i < n → getD ws (4096 + b) 0 % 2048 ≡ i → getD ws (4096 + b) 0 / 1048576 ≡ field book (first + i) 1
-    first-record i h e =
-        let d : nextIn headBucket book first b 0 n ≡ i = sym (I .firsts b c) ∙ e in
-        I .clauses b c (rw d h) ∙ ap (λ (x : ℕ). field book (first + x) 1) d
+  pub list-done : (z : ℕ) → OnList book first n f m i z → n ≤ z → n ≡ lastMatch book f m first n i
+  list-done z O h = let e : n ≡ z = omega (arith, O .within) in e ∙ sym (last-none book first n f m z h) ∙ O .rest
 
-  module _ (f m i : ℕ) (h : i < n) (e : bucketOf headBucket book first i ≡ headBucket f m) where
-    next-is : getD ws (5120 + i) 0 ≡ nextIn headBucket book first (headBucket f m) (i + 1) (n - (i + 1))
-    next-is = I .nexts i h ∙ ap (λ (x : ℕ). nextIn headBucket book first x (i + 1) (n - (i + 1))) e
+  module _ (ws : List ℕ) (most : n ≤ 1024) (a : i ≤ n) (L : Listed book first n i ws) where
+    pub list-begins : (b : ℕ) → b < 1024 → b ≡ headBucket f m → OnList book first n f m i (getD ws (4096 + b) 0 % 2048)
+    list-begins b h e = on-list i _ (omega arith) a (L .firsts b h ∙ ap (λ (x : ℕ). nextLast book first n x i (n - i)) e) refl
 
-    pub next-bucket : InBucket headBucket book first n (headBucket f m) (getD ws (5120 + i) 0)
-    next-bucket = skip-within headBucket book first n (i + 1) _ (omega arith) (headBucket f m) next-is
+    module _ (z : ℕ) (O : OnList book first n f m i z) (h : z < n) where
+      abbrev N : ℕ
+      N = nextLast book first n (headBucket f m) (z + 1) (n - (z + 1))
 
-    pub next-later : i < getD ws (5120 + i) 0
-    next-later = rw next-is (omega (arith, in-bounds headBucket book first (headBucket f m) (i + 1) (n - (i + 1)) .0))
+      link-is : getD ws (5120 + z) 0 / 4194304 ≡ linkOr n z N
+      link-is =
+          ap (λ (x : ℕ). x / 4194304) (L .nexts z (O .lower) h) ∙ word-link book first n most i z a h (O .node h .1)
+          ∙ ap (λ (x : ℕ). linkOr n z (nextLast book first n x (z + 1) (n - (z + 1)))) (O .node h .0)
 
-    pub next-skips : nextMatch book f m first (getD ws (5120 + i) 0) (n - getD ws (5120 + i) 0) ≡ nextMatch book f m first (i + 1) (n - (i + 1))
-    next-skips = skip-same headBucket book first n (i + 1) _ (omega arith) f m next-is
+      module _ (c : ℕ) (t : _) (e : c ≡ field book (first + z) 1) (p : t ≡ headMatches book f m c) (q : t ≡ false) where
+        passed : lastMatch book f m first n (z + 1) ≡ lastMatch book f m first n i
+        passed = let y : headMatches book f m (field book (first + z) 1) ≡ false = rw (← e) (sym p ∙ q) in sym (last-past book first n f m z h y) ∙ O .rest
+
+        after : OnList book first n f m i N
+        after = on-list (z + 1) N (omega (arith, O .lower)) (omega arith) refl passed
+
+        pub list-ends : getD ws (5120 + z) 0 / 4194304 ≡ z → n ≡ lastMatch book f m first n i
+        list-ends d = list-done N after (go (decLt N n))
+          where
+            go : Dec (N < n) → n ≤ N
+            go (yes x) = absurd (omega (arith, link-is, link-some n z N x, list-bounds book first n (headBucket f m) (z + 1) (omega arith) .0))
+            go (no x) = omega arith
+
+        pub list-goes-on : (getD ws (5120 + z) 0 / 4194304 ≡ z → ⊥) → (z < getD ws (5120 + z) 0 / 4194304) × OnList book first n f m i (getD ws (5120 + z) 0 / 4194304)
+        list-goes-on d = go (decLt N n)
+          where
+            go : Dec (N < n) → (z < getD ws (5120 + z) 0 / 4194304) × OnList book first n f m i (getD ws (5120 + z) 0 / 4194304)
+            go (yes x) =
+                let y : getD ws (5120 + z) 0 / 4194304 ≡ N = link-is ∙ link-some n z N x in
+                (omega (arith, y, list-bounds book first n (headBucket f m) (z + 1) (omega arith) .0), rw y after)
+            go (no x) = absurd (d (link-is ∙ link-none n z N (omega arith)))
+
+-- WHAT IS FOUND
+module _ (book : List ℕ) (first n : ℕ) (ws : List ℕ) (most : n ≤ 1024) (I : Indexed book first n ws) (f m : ℕ) where
+  pub start-found : (z : ℕ) → z ≡ lastMatch book f m first n 0 → z < n → getD ws (5120 + z) 0 / 2048 % 2048 ≡ nextMatch book f m first 0 n
+  start-found z e h =
+      let x = rw (← e) at (last-found book first n f m 0 (omega arith)) in
+      let w : n - 0 ≡ n = omega arith in
+      ap (λ (y : ℕ). y / 2048 % 2048) (I .nexts z (omega arith) h) ∙ word-start book first n most 0 z (omega arith) h (x h .1) ∙ start-is book first n f m 0 z (x h .0) ∙ rw w refl
+
+  pub none-found : (z : ℕ) → z ≡ lastMatch book f m first n 0 → n ≤ z → n ≡ nextMatch book f m first 0 n
+  none-found z e h = let w : n - 0 ≡ n = omega arith in sym (none-matches book first n f m 0 (omega arith) (rw (← e) h)) ∙ rw w refl
+
+  pub same-found : (i : ℕ) → i < n → headMatches book f m (field book (first + i) 1) ≡ true → getD ws (5120 + i) 0 % 2048 ≡ nextMatch book f m first (i + 1) (n - (i + 1))
+  same-found i h e = ap (λ (y : ℕ). y % 2048) (I .nexts i (omega arith) h) ∙ word-same book first n most 0 i (omega arith) h ∙ start-is book first n f m (i + 1) i e
+
+-- the record of the first clause of a bucket's list
+pub first-record : (book : List ℕ) (first n : ℕ) (ws : List ℕ) → Indexed book first n ws → (b : ℕ) → b < 1024 → (i : ℕ) → i < n → getD ws (4096 + b) 0 % 2048 ≡ i
+    → getD ws (4096 + b) 0 / 1048576 ≡ field book (first + i) 1
+first-record book first n ws I b c i h e =
+    let d : nextLast book first n b 0 (n - 0) ≡ i = sym (I .firsts b c) ∙ e in
+    I .clauses b c (rw d h) ∙ ap (λ (x : ℕ). field book (first + x) 1) d

@@ -1,5 +1,6 @@
 pub mod RunLaws
 pub mod BucketLaws
+pub mod ListLaws
 pub mod IndexLaws
 pub mod NoteLaws
 pub mod NoteWords

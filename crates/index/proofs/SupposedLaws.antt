@@ -93,7 +93,7 @@ supposed-own book first n k ws l m I =
     own-marked x b g h s J = record {
       firsts = λ c j. mark-number x b g c s h j ∙ J .firsts c j;
       clauses = λ c j q. mark-clause x b g c s h j ∙ J .clauses c j q;
-      nexts = λ i j. mark-keeps 5120 6144 x b g h (inr (omega arith)) .same (5120 + i) (omega arith) (omega arith) ∙ J .nexts i j;
+      nexts = λ i a j. mark-keeps 5120 6144 x b g h (inr (omega arith)) .same (5120 + i) (omega arith) (omega arith) ∙ J .nexts i a j;
     }
 
 -- the index is kept with its words

@@ -44,7 +44,7 @@ next-of-requires : tie.Need-next-of-requires
 next-of-requires c κs = let p = c .before .before .before .before .before .pre in let y = c .before .before .if1 .left in let x = put-at (omega arith) (candidate-put _ (p .0) (p .1 .0 .0) _ _ _ _ _ _ _ (omega arith) (p .1 .1 .0) .1 .1) in
     let n = p .1 .1 .1 .0 in
     let g = goal-ready _ (p .0) (p .1 .0 .0) _ _ _ _ _ _ x in
-    (p .0, ((p .1 .0 .0, p .1 .0 .2 .supposed), ((g .0, g .1, n .2, n .3, n .0), (rw (record-is _ (p .0) (p .1 .0 .0) _ _ _ _ _ _ x) (omega (arith, x .most)), put-matches _ (p .0) (p .1 .0 .0) _ _ _ _ _ _ _ (omega arith) (p .1 .1 .0)))))
+    (p .0, ((p .1 .0 .0, p .1 .0 .2 .supposed), ((g .0, g .1, omega (arith, n .2, n .3), omega (arith, n .2, n .3), n .0), (rw (record-is _ (p .0) (p .1 .0 .0) _ _ _ _ _ _ x) (omega (arith, x .most)), put-matches _ (p .0) (p .1 .0 .0) _ _ _ _ _ _ _ (omega arith) (p .1 .1 .0)))))
 
 sub-t23 : tie.Need-sub-t23
 sub-t23 c = search needs

@@ -27,7 +27,7 @@ seek-put-requires : tie.Need-seek-put-requires
 seek-put-requires c κs = let p = c .before .before .before .before .before .before .pre in (p .0, (p .1 .0, (p .1 .1 .0 .0, (p .1 .1 .1 .0, p .1 .1 .1 .1))))
 
 remember-requires : tie.Need-remember-requires
-remember-requires c κs = let p = c .before .before .before .before .before .before .before .before .pre in let n = p .1 .1 .1 .0 in let x = put-at (p .1 .1 .0 .1) (p .1 .1 .0 .0 .1) in (n .0, omega (arith, x .below, n .1), n .2, n .3, c .before .seek-put .ensures .0)
+remember-requires c κs = let p = c .before .before .before .before .before .before .before .before .pre in let n = p .1 .1 .1 .0 in let x = put-at (p .1 .1 .0 .1) (p .1 .1 .0 .0 .1) in (n .0, omega (arith, x .below, n .1), omega (arith, n .2, n .3), omega (arith, n .2, n .3), c .before .seek-put .ensures .0)
 
 same-length-2 : tie.Need-same-length-2
 same-length-2 c = search needs

@@ -28,10 +28,13 @@ pub fn rows() -> Vec<Row> {
         Row { name: "64 others made anew", book: others_made_anew() },
         Row { name: "the last of 64 made anew", book: last_made_anew() },
         Row { name: "512 predicates in turn, 8 x 64", book: in_turn() },
+        Row { name: "300 suppositions in turn", book: nested_in_turn() },
+        Row { name: "300 suppositions made anew", book: nested_made_anew() },
         Row { name: "heads of one bucket", book: one_bucket() },
         kept!("deep ground terms", "e_deep-2"),
         kept!("bushy ground terms", "e_tree-2"),
         kept!("chain of 64", "f_chain-0"),
+        Row { name: "64 answers, one call", book: answers() },
         Row { name: "1,000 predicates", book: thousand(250, 2) },
         Row { name: "1,000 predicates, one call", book: thousand(0, 2) },
         Row { name: "refused by test 7", book: refused_late() },
@@ -129,13 +132,36 @@ fn last_made_anew() -> Vec<u8> {
     asked(and(k(0), and(k(1), and(k(2), others(1, 64, false, four)))))
 }
 
-/// Each of the 512 facts of eight suppositions asked for, one after the other, 16 times over: more places than the proved engine remembers.
+/// Each of the 512 facts of eight suppositions asked for, one after the other, 16 times over.
 fn in_turn() -> Vec<u8> {
-    fn any(from: u16, to: u16) -> Goal {
-        let middle = (from + to) / 2;
-        if from == middle { atom(from, &[]) } else { or(any(from, middle), any(middle, to)) }
-    }
     asked(others(8, 64, false, and(atom(K, &[variable(0)]), and(any(0, 512), atom(NONE, &[])))))
+}
+
+/// 300 suppositions of one fact each, one inside the other; each fact is asked for, one after the other, 16 times over.
+fn nested_in_turn() -> Vec<u8> {
+    asked(nested(300, and(atom(K, &[variable(0)]), and(any(0, 300), atom(NONE, &[])))))
+}
+
+/// The same, the suppositions made anew each of the 16 times: every search is the first one from its program.
+fn nested_made_anew() -> Vec<u8> {
+    asked(and(atom(K, &[variable(0)]), nested(300, and(any(0, 300), atom(NONE, &[])))))
+}
+
+/// The goal under suppositions of fact 0, fact 1 and so on, that of fact 0 the innermost.
+fn nested(facts: u16, goal: Goal) -> Goal {
+    (0..facts).fold(goal, |goal, symbol| suppose(&[fact(symbol, &[])], goal))
+}
+
+/// Any of the predicates `from` up to `to`.
+fn any(from: u16, to: u16) -> Goal {
+    let middle = (from + to) / 2;
+    if from == middle { atom(from, &[]) } else { or(any(from, middle), any(middle, to)) }
+}
+
+/// The 64 facts of a predicate, all asked for: each is an answer, and the call ends with the last.
+fn answers() -> Vec<u8> {
+    let clauses = (0..64).map(|c| fact(K, &[term(c, &[])])).collect();
+    Question { clauses, goal: atom(K, &[variable(0)]), unknowns: 1 }.book()
 }
 
 /// Four goals of a predicate of one clause, 256 times over, behind 500 facts of another that the proved engine's index puts into the same bucket.

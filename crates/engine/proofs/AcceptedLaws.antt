@@ -11,7 +11,7 @@ use Rattle.running.specs.declared.Ran.{Ran}
 use Rattle.starting.specs.Start.{Ready, After}
 use Rattle.engine.specs.Opened.{Opened}
 
--- a workspace with its slots open and nothing numbered, and an answer buffer that was cleared
+-- a workspace with its slots open and nothing remembered, and an answer buffer that was cleared
 pub run-ready : (book : List ℕ) (wanted budget : ℕ) (ws out out′ : List ℕ) → Accepted book → (length out ≤ 65536) × (1 ≤ wanted) × (wanted ≤ 64)
     → Opened ws → out′ ≡ replicate (length out) 0 → Ready book ws out′ wanted budget noCounts
 run-ready book wanted budget ws out out′ A h z o =
@@ -20,8 +20,7 @@ run-ready book wanted budget ws out out′ A h z o =
       accepted = A;
       size = z .size;
       open-slots = z .slots;
-      numbers = λ v l. z .memo-and-numbers (13568 + v) (omega arith) (omega arith);
-      memo = λ k l. z .memo-and-numbers (13328 + k) (omega arith) (omega arith);
+      memo = z .memo;
       room = omega (arith, h .0);
       wanted-some = h .1;
       wanted-most = h .2;

@@ -8,5 +8,5 @@ pub record Opened (ws : List ℕ) : Type 0 where
   pub size : length ws ≡ 16384
   -- the slots of the unknowns
   pub slots : (k : ℕ) → k < 64 → getD ws k 0 ≡ 0
-  -- the words of the memo, and of an answer's variables
-  pub memo-and-numbers : (k : ℕ) → 13328 ≤ k → k < 15616 → getD ws k 0 ≡ 0
+  -- the words of the memo
+  pub memo : (k : ℕ) → 13568 ≤ k → k < 15616 → getD ws k 0 ≡ 0

@@ -10,13 +10,13 @@ use machine::Outcome;
 use machine::Reply;
 use machine::Tally;
 
-// What a run must find as zeros: the slots of the unknowns, and the words of the memo and of an answer's variables, which stand side by side. Of the other words a run asks nothing.
+// What a run must find as zeros: the slots of the unknowns, and the words of the memo. Of the other words a run asks nothing.
 fn open_words(ws: &mut [u32])
     requires { ⌜ length (now ws) ≡ 16384 ⌝ }
     ensures { λ r. ⌜ Opened (now (ws .exit)) ⌝ }
 {
-    pointing::clear(&mut ws[..64]);
-    pointing::clear(&mut ws[13328..15616]);
+    words::clear_words(ws, 0, 64);
+    branch::forget(ws, 2048);
 }
 
 // A call that is not refused, on any words.

@@ -15,7 +15,8 @@ use Rattle.words.proofs.StackLaws.{keeps-refl, keeps-trans, keeps-narrow, keeps
 use Rattle.index.specs.Runs.{headMatches, nextMatch}
 use Rattle.index.specs.Index.{headBucket, bucketOf, startOf, isLast, nextLast, lastMatch, linkOr, wordOf, entryOf, Listed, Indexed, EmptyFrom, IndexedFrom}
 use Rattle.index.proofs.BucketLaws.{matching-bucket}
-use Rattle.index.proofs.ListLaws.{such-none, start-is, start-bounds, last-bounds, last-found, last-none, last-here, last-past, none-matches, list-skips, list-bounds, list-found, list-here, list-other, list-past}
+use Rattle.index.proofs.SuchLaws.{such-none}
+use Rattle.index.proofs.ListLaws.{start-is, start-bounds, last-bounds, last-found, last-none, last-here, last-past, none-matches, list-skips, list-bounds, list-found, list-here, list-other, list-past}
 use Rattle.index.proofs.ListLaws.{word-last, word-not, link-some, link-none, link-small, word-link, word-start, word-same, start-here, word-keep, last-one, same-next, not-the-last, the-last, none-other}
 
 -- THE WORD OF A CLAUSE
@@ -177,9 +178,6 @@ module _ (book : List ℕ) (first n i f m z : ℕ) (ws : List ℕ) (l : length w
 
     bucket-here : b ≡ bucketOf headBucket book first i
     bucket-here = be ∙ sym (matching-bucket headBucket book first f m i e)
-
-    pub new-link : k < n
-    new-link = omega (arith, ke, link-small n i (getD ws (4096 + b) 0 % 2048) h)
 
     link-here : k ≡ linkOr n i (nextLast book first n (bucketOf headBucket book first i) (i + 1) (n - (i + 1)))
     link-here =

@@ -1,4 +1,5 @@
 pub mod RunLaws
+pub mod SuchLaws
 pub mod BucketLaws
 pub mod ListLaws
 pub mod IndexLaws

@@ -15,7 +15,8 @@ use Rattle.book.proofs.Apart.{supposed-links}
 use Rattle.book.proofs.Tests.{Tested, Tested.equal, Tested.other, tested}
 use Rattle.words.specs.Readable.{Readable}
 use Rattle.words.proofs.ReadLaws.{in-book}
-use Rattle.index.specs.Runs.{headMatches, nextMatch, foundAmong, ClauseRun}
+use Rattle.index.specs.Runs.{headMatches, matchesAt, nextMatch, foundAmong, ClauseRun}
+use Rattle.index.proofs.SuchLaws.{such-none, such-here, such-on}
 
 -- SUPPOSE GOALS
 
@@ -77,20 +78,13 @@ heads-both book f m c h x p q s = rw (headMatches, ← p) (go (tested f (field b
 module _ (book : List ℕ) (f m first : ℕ) where
   pub next-none : (i n : ℕ) → n ≤ i → nextMatch book f m first i (n - i) ≡ i
   unfolding nextMatch
-  next-none i n h = let z : n - i ≡ 0 = omega arith in rw z refl
+  next-none i n h = such-none (matchesAt book f m first) i n h
 
   pub next-found : (i n c : ℕ) (t : Bool) → i < n → c ≡ field book (first + i) 1 → t ≡ headMatches book f m c → t ≡ true → nextMatch book f m first i (n - i) ≡ i
   unfolding nextMatch
-  next-found i n c t h e p q =
-      let z : n - i ≡ suc (n - i - 1) = omega arith in
-      let y : headMatches book f m (field book (first + i) 1) ≡ true = rw (← e) (sym p ∙ q) in
-      rw (z, nextMatch, y) refl
+  next-found i n c t h e p q = such-here (matchesAt book f m first) i n h (rw (← e) (sym p ∙ q))
 
   pub next-on : (i n c : ℕ) (t : Bool) → i < n → c ≡ field book (first + i) 1 → t ≡ headMatches book f m c → t ≡ false
       → nextMatch book f m first i (n - i) ≡ nextMatch book f m first (i + 1) (n - (i + 1))
   unfolding nextMatch
-  next-on i n c t h e p q =
-      let z : n - i ≡ suc (n - (i + 1)) = omega arith in
-      let w : suc i ≡ i + 1 = omega arith in
-      let y : headMatches book f m (field book (first + i) 1) ≡ false = rw (← e) (sym p ∙ q) in
-      rw (z, nextMatch, y, w) refl
+  next-on i n c t h e p q = such-on (matchesAt book f m first) i n h (rw (← e) (sym p ∙ q))

@@ -20,7 +20,7 @@ use Rattle.words.proofs.ReadLaws.{in-book}
 use Rattle.words.proofs.FromAccepted.{readable}
 use Rattle.index.specs.Index.{bucketOf, nextIn, headBucket, Indexed}
 use Rattle.index.specs.Supposed.{smallBucket, noteOf, noteWords, markedBy, markWords, emptyRun, enterClause, runWords, supposedWords, RunIndexed, SupposedBelow, SupposedIndexed}
-use Rattle.index.specs.Runs.{ClauseRun}
+use Rattle.index.specs.Runs.{nextSuch, ClauseRun}
 use Rattle.index.proofs.RunLaws.{seven-kind, suppose-run}
 use Rattle.index.proofs.BucketLaws.{in-other, in-this}
 use Rattle.index.proofs.IndexLaws.{indexed-same}
@@ -143,7 +143,7 @@ module _ (book : List ℕ) (s first n : ℕ) (A : Apart book first n) where
           note-other _ (first + k) (first + b) n size (A .links k h) (A .links b (omega arith)) (omega (arith, A .most)) (λ z. e (omega (arith, z))) ∙ f (omega arith)
 
   entered-none : (ws : List ℕ) → length ws ≡ 16384 → EnteredFrom book s first n n (emptyRun first n n ws)
-  unfolding nextIn
+  unfolding nextIn nextSuch
   entered-none ws l = record {
     size = empty-length n ws ∙ l;
     firsts = λ b h. empty-notes n b ws (omega arith) h l ∙ (let z : n - n ≡ 0 = omega arith in rw z refl);

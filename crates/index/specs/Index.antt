@@ -12,7 +12,7 @@ use lib.Dec.{eqb, ltb}
 use lib.ListN.{getD}
 use Rattle.book.specs.Records.{field}
 use Rattle.words.specs.Frame.{Keeps}
-use Rattle.index.specs.Runs.{headMatches, nextMatch}
+use Rattle.index.specs.Runs.{headMatches, nextSuch, nextMatch}
 
 -- BUCKETS, for any way h of giving a bucket to a symbol and an argument count
 
@@ -20,10 +20,13 @@ use Rattle.index.specs.Runs.{headMatches, nextMatch}
 unfoldable pub bucketOf : (ℕ → ℕ → ℕ) → List ℕ → ℕ → ℕ → ℕ
 bucketOf h book first i = h (field book (field book (field book (first + i) 1) 4) 1) (field book (field book (field book (first + i) 1) 4) 2)
 
--- the first of the j clauses from number k on that is in bucket b, or k + j
+-- clause i is in bucket b
+abbrev pub isIn : (ℕ → ℕ → ℕ) → List ℕ → ℕ → ℕ → ℕ → Bool
+isIn h book first b i = eqb b (bucketOf h book first i)
+
+-- the first of the d clauses from number k on that is in bucket b, or k + d
 unfoldable pub nextIn : (ℕ → ℕ → ℕ) → List ℕ → ℕ → ℕ → ℕ → ℕ → ℕ
-nextIn h book first b k zero = k
-nextIn h book first b k (suc j) = elim (eqb b (bucketOf h book first k)) [ true ↦ k | false ↦ nextIn h book first b (suc k) j ]
+nextIn h book first b k d = nextSuch (isIn h book first b) k d
 
 -- clause r, if there is one, is in bucket b
 pub record InBucket (h : ℕ → ℕ → ℕ) (book : List ℕ) (first n b r : ℕ) : Type 0 where
@@ -39,11 +42,6 @@ headBucket f m = (f + 64 * m) % 1024
 -- the word of clause i of a run of n: its number, and its record; n alone, if there is no such clause
 unfoldable pub entryOf : List ℕ → ℕ → ℕ → ℕ → ℕ
 entryOf book first n i = elim (ltb i n) [ true ↦ 1048576 * field book (first + i) 1 + i | false ↦ n ]
-
--- the first of the d numbers from k on that p says yes to, or k + d
-unfoldable pub nextSuch : (ℕ → Bool) → ℕ → ℕ → ℕ
-nextSuch p k zero = k
-nextSuch p k (suc d) = elim (p k) [ true ↦ k | false ↦ nextSuch p (suc k) d ]
 
 -- the head of clause i: its symbol, and how many arguments it has
 unfoldable pub symbolOf : List ℕ → ℕ → ℕ → ℕ

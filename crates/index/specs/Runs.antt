@@ -9,10 +9,18 @@ use Rattle.book.specs.Records.{field, records}
 unfoldable pub headMatches : List ℕ → ℕ → ℕ → ℕ → Bool
 headMatches book f m c = eqb f (field book (field book c 4) 1) && eqb m (field book (field book c 4) 2)
 
--- the first of the j links from number k on whose clause matches, or k + j
+-- the first of the d numbers from k on that p says yes to, or k + d
+unfoldable pub nextSuch : (ℕ → Bool) → ℕ → ℕ → ℕ
+nextSuch p k zero = k
+nextSuch p k (suc d) = elim (p k) [ true ↦ k | false ↦ nextSuch p (suc k) d ]
+
+-- the clause at link i of the run matches
+abbrev pub matchesAt : List ℕ → ℕ → ℕ → ℕ → ℕ → Bool
+matchesAt book f m first i = headMatches book f m (field book (first + i) 1)
+
+-- the first of the d links from number k on whose clause matches, or k + d
 unfoldable pub nextMatch : List ℕ → ℕ → ℕ → ℕ → ℕ → ℕ → ℕ
-nextMatch book f m first k zero = k
-nextMatch book f m first k (suc j) = elim (headMatches book f m (field book (first + k) 1)) [ true ↦ k | false ↦ nextMatch book f m first (suc k) j ]
+nextMatch book f m first k d = nextSuch (matchesAt book f m first) k d
 
 -- what is found among n: number j, and 1; 0 if it is none of them
 unfoldable pub foundAmong : ℕ → ℕ → ℕ

@@ -9,7 +9,7 @@ use lib.ListN.{getD}
 use Rattle.words.specs.Words.{termW}
 use Rattle.index.specs.Index.{IndexedFrom}
 use Rattle.branch.proofs.open_again.Reads as branch-open-again-reads
-use Rattle.branch.proofs.open_slots.Reads as branch-open-slots-reads
+use Rattle.branch.proofs.forget.Reads as branch-forget-reads
 use Rattle.branch.proofs.put_ties.Reads as branch-put-ties-reads
 use Rattle.branch.proofs.kept.Reads as branch-kept-reads
 use Rattle.branch.proofs.go_back.Reads as branch-go-back-reads
@@ -19,10 +19,12 @@ use Rattle.index.proofs.index_supposed.Reads as index-index-supposed-reads
 use Rattle.index.proofs.first_of.Reads as index-first-of-reads
 use Rattle.index.proofs.next_of.Reads as index-next-of-reads
 use Rattle.index.proofs.is_supposed.Reads as index-is-supposed-reads
+use Rattle.steps.proofs.to_back.Reads as steps-to-back-reads
 use Rattle.following.proofs.follow.Reads as following-follow-reads
 use Rattle.index.proofs.clause_at.Reads as index-clause-at-reads
 use Rattle.index.proofs.first_match.Reads as index-first-match-reads
 use Rattle.index.proofs.match_after.Reads as index-match-after-reads
+use Rattle.words.proofs.clear_words.Reads as words-clear-words-reads
 use Rattle.words.proofs.index.Reads as words-index-reads
 use Rattle.words.proofs.field.Reads as words-field-reads
 use Rattle.words.proofs.word_for.Reads as words-word-for-reads
@@ -36,8 +38,11 @@ use Rattle.index.proofs.make_index.Reads as index-make-index-reads
 pub branch-open-again : (κs : _) (a : _) (r r′ : _) (s s′ : _) → branch-open-again-reads.Post κs a r s → branch-open-again-reads.Post κs a r′ s′ → s .0 .now ≡ s′ .0 .now
 branch-open-again κs a r r′ s s′ p q = p ∙ sym q
 
-pub branch-open-slots : (κs : _) (a : _) (r r′ : _) (s s′ : _) → branch-open-slots-reads.Post κs a r s → branch-open-slots-reads.Post κs a r′ s′ → s .0 .now ≡ s′ .0 .now
-branch-open-slots κs a r r′ s s′ p q = p ∙ sym q
+pub branch-forget : (κs : _) (a : _) (r r′ : _) (s s′ : _) → branch-forget-reads.Post κs a r s → branch-forget-reads.Post κs a r′ s′ → s .0 .now ≡ s′ .0 .now
+branch-forget κs a r r′ s s′ p q = p ∙ sym q
+
+pub words-clear-words : (κs : _) (a : _) (r r′ : _) (s s′ : _) → words-clear-words-reads.Post κs a r s → words-clear-words-reads.Post κs a r′ s′ → s .0 .now ≡ s′ .0 .now
+words-clear-words κs a r r′ s s′ p q = p ∙ sym q
 
 pub branch-put-ties : (κs : _) (a : _) (r r′ : _) (s s′ : _) → branch-put-ties-reads.Post κs a r s → branch-put-ties-reads.Post κs a r′ s′ → s .1 .0 .now ≡ s′ .1 .0 .now
 branch-put-ties κs a r r′ s s′ p q = p ∙ sym q
@@ -53,6 +58,9 @@ branch-keep κs a r r′ s s′ p q = p ∙ sym q
 
 pub branch-put-cell : (κs : _) (a : _) (r r′ : _) (s s′ : _) → branch-put-cell-reads.Post κs a r s → branch-put-cell-reads.Post κs a r′ s′ → s .0 .now ≡ s′ .0 .now
 branch-put-cell κs a r r′ s s′ p q = p ∙ sym q
+
+pub steps-to-back : (κs : _) (a : _) (r r′ : _) (s s′ : _) → steps-to-back-reads.Post κs a r s → steps-to-back-reads.Post κs a r′ s′ → r ≡ r′
+steps-to-back κs a r r′ s s′ p q = p ∙ sym q
 
 pub index-index-supposed : (κs : _) (a : _) (r r′ : _) (s s′ : _) → index-index-supposed-reads.Post κs a r s → index-index-supposed-reads.Post κs a r′ s′ → s .1 .0 .now ≡ s′ .1 .0 .now
 index-index-supposed κs a r r′ s s′ p q = p ∙ sym q

@@ -107,7 +107,7 @@ module _ (book : List ℕ) (R : Readable book) (A : Accepted book) (ws : List �
     pub sound : Sound book ws₂ (topsWith x (x .made) l n)
     pub goals : IsGoals book ws₂ madeNow (l .cells) (x .programs) (l .cell) goalsNow
     pub leaves : Leaves ws₁ ws₂
-    pub memo : Keeps 13328 13568 ws₁ ws₂
+    pub memo : Keeps 13568 15616 ws₁ ws₂
     pub few : l .cells ≤ 2 * x .taken + 2
     pub waiting : {ts : List Thread} → Waiting book ws₁ (topsAt x n) ts → Waiting book ws₂ (topsWith x (x .made) l n) ts
 
@@ -120,7 +120,7 @@ module _ (book : List ℕ) (R : Readable book) (A : Accepted book) (ws : List �
         sound = sound-renewed;
         goals = rw z goals-renewed;
         leaves = leaves-none ws₁;
-        memo = keeps-refl 13328 13568 ws₁;
+        memo = keeps-refl 13568 15616 ws₁;
         few = X .again .there .cells-few;
         waiting = λ w. w;
       }
@@ -165,7 +165,7 @@ module _ (book : List ℕ) (R : Readable book) (A : Accepted book) (ws : List �
           sound = s;
           goals = rw body-with g;
           leaves = leaves-cell (x .cells) (termWord (field book c 6) (x .made)) (x .call) (x .cell) ws₁ (omega (arith, cells-free));
-          memo = put-outside 13328 13568 (x .cells) (termWord (field book c 6) (x .made)) (x .call) (x .cell) ws₁ (inl (omega (arith, cells-free)));
+          memo = put-outside 13568 15616 (x .cells) (termWord (field book c 6) (x .made)) (x .call) (x .cell) ws₁ (inl (omega (arith, cells-free)));
           few = omega (arith, X .with .room);
           waiting = λ W. waiting-raised {u = topsWith x (x .made) new n} (omega arith, refl, omega arith, omega arith, refl) (waiting-agree (agree-put (x .made) n (S .slots .room)) sound-renewed W);
         }

@@ -68,7 +68,7 @@ module _ {book ws ws′ : List ℕ} (O : MemoOnly ws ws′) where
 
   pub first-only : {made a e w : ℕ} → made ≤ 2048 → FirstIs book ws made a e w → FirstIs book ws′ made a e w
   first-only {made} h F =
-      let s = store-same book made 13328 (omega arith) (O .below) in
+      let s = store-same book made 13568 (omega arith) (O .below) in
       record { some = F .some; read = record { walked = rw s (F .read .walked); good = F .read .good; unbound = λ l. absurd (omega (arith, F .large)) }; large = F .large }
 
   -- the candidate after the next one is the same, whichever of the two the search has looked at

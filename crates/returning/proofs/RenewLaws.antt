@@ -8,6 +8,8 @@ use lib.ListN.{length}
 use Rattle.book.specs.Records.{field, records}
 use Rattle.book.proofs.Accepted.{Accepted}
 use Rattle.machine.specs.Machine.{Thread, entering, Force, candidates, tryAll}
+use Rattle.words.specs.Readable.{Readable}
+use Rattle.steps.proofs.ReadyLaws.{has-atom}
 use Rattle.words.specs.Words.{recOf, baseOf}
 use Rattle.words.proofs.PackLaws.{rec-pack, base-pack, pack-large}
 use Rattle.words.proofs.StackLaws.{keeps-refl}
@@ -50,6 +52,9 @@ module _ (book : List ℕ) (ws : List ℕ) (k : ℕ) (x : Back) (threads : List 
 
   pub atom-inside : x .atom / 4096 - 1 < records book
   atom-inside = rw atom-record (X .with .here .inside)
+
+  pub atom-few : Readable book → field book (x .atom / 4096 - 1) 2 ≤ 8
+  atom-few R = rw atom-record (R .small (X .a) (has-atom book (X .a) (X .with .here .inside) (X .with .kind)))
 
   abbrev S : Sound book ws (topsAt x k)
   S = X .again .sound
@@ -94,7 +99,7 @@ module _ (book : List ℕ) (ws : List ℕ) (k : ℕ) (x : Back) (threads : List 
   pub renew-drops : candidates (field book (X .a) 1) (field book (X .a) 2) (X .after) ≡ [] → Renewed book ws ws k x threads X k
   unfolding tryAll
   renew-drops e = record
-      { below = keeps-refl 0 (9744 + 5 * k) ws; memo = keeps-refl 13328 13568 ws; leaves = leaves-none ws; most = omega arith; waiting = rw e (X .again .waiting) }
+      { below = keeps-refl 0 (9744 + 5 * k) ws; memo = keeps-refl 13568 15616 ws; leaves = leaves-none ws; most = omega arith; waiting = rw e (X .again .waiting) }
 
   module _ (q i : ℕ) (f : Force) (after : List Force) (C : IsClause book ws (x .made) (x .programs) q i f after) where
     abbrev kk : k < 512
@@ -127,7 +132,7 @@ module _ (book : List ℕ) (ws : List ℕ) (k : ℕ) (x : Back) (threads : List 
         let z : suc k ≡ k + 1 = omega arith in
         record {
           below = kept-outside ws k (moved x q i) kk (S .slots .size) 0 (9744 + 5 * k) (inr (omega arith));
-          memo = kept-outside ws k (moved x q i) kk (S .slots .size) 13328 13568 (inl (omega (arith, kk)));
+          memo = kept-outside ws k (moved x q i) kk (S .slots .size) 13568 15616 (inl (omega (arith, kk)));
           leaves = leaves-kept ws k (moved x q i) kk (S .slots .size);
           most = omega arith;
           waiting = rw (d, ← z) W;

@@ -38,7 +38,7 @@ moved x q i = record
 -- the alternative for the candidates after this one is kept in the place of k; with none it is dropped, and there are n now
 pub record Renewed (book ws ws′ : List ℕ) (k : ℕ) (x : Back) (threads : List Thread) (X : ToClause book ws k x threads) (n : ℕ) : Type 0 where
   pub below : Keeps 0 (9744 + 5 * k) ws ws′
-  pub memo : Keeps 13328 13568 ws ws′
+  pub memo : Keeps 13568 15616 ws ws′
   pub leaves : Leaves ws ws′
   pub most : n ≤ k + 1
   pub waiting : Waiting book ws′ (topsAt x n) (tryAll (X .b) (atomOf book (X .a) (X .e) (X .program)) (candidates (field book (X .a) 1) (field book (X .a) 2) (X .after)) ++ X .ts)

@@ -21,19 +21,19 @@ use Rattle.words.specs.Frame.{Keeps}
 use Rattle.branch.proofs.StateLaws.{sound-agree, waiting-agree}
 use Rattle.branch.proofs.MemoLaws.{memo-kept}
 use Rattle.steps.specs.declared.Regs.{Regs}
-use Rattle.steps.specs.Search.{runOut, runOn, topsOf, phase, Stands, Stands.going-back}
+use Rattle.steps.specs.Search.{runOut, runOn, topsOf, backRegs, phase, Stands, Stands.going-back}
 use Rattle.steps.proofs.RunLaws.{at-thread}
 use Rattle.answers.specs.declared.Answered.{Answered}
 use Rattle.answers.specs.declared.Answered.the-variants as answered
 use Rattle.answers.specs.Buffer.{answerFor, replyOf, bufferAfter}
-use Rattle.answers.proofs.CallerLaws.{Given, Given.given, Given.stopped, gives, after-numbers}
+use Rattle.answers.proofs.CallerLaws.{Given, Given.given, Given.stopped, gives}
 use Rattle.running.specs.declared.Turned.{Turned}
 use Rattle.running.specs.declared.Turned.the-variants.{On, Over}
 use Rattle.words.proofs.StackLaws.{keeps-narrow}
 use Rattle.branch.proofs.SeekChain.{all-same}
 use Rattle.branch.specs.State.{ownRun}
 use Rattle.branch.proofs.FromScoped.{own-ready}
-use Rattle.running.specs.Turns.{Taken, requestOf, Midway, ahead, TurnGives, TurnGives.turns-on, TurnGives.turns-over, oneMore, leftBehind}
+use Rattle.running.specs.Turns.{Taken, requestOf, Midway, ahead, TurnGives, TurnGives.turns-on, TurnGives.turns-over, oneMore}
 use Rattle.running.proofs.HandLaws.{InHand, hand, list-empty, unit-answered, answer-agree}
 
 -- the tally, as the machine counts and as the code does
@@ -139,8 +139,8 @@ module _ (book : List ℕ) (unknowns wanted size budget : ℕ) (ws ws′ out out
   enough-by k z (cut m) a (stopped o) q e p u = absurd-answer (cc)
 
   more-by : (k : ℕ) (z : Tally) (w : Written) (a : Answered) → Given size (M .lines) out′ w a → a ≡ answered.Written k → whole ≡ Then w → z ≡ oneMore y (r .supposed) → (z .answers ≡ wanted → ⊥)
-      → TurnGives book unknowns wanted size budget ws′ out′ r y whole (On z (leftBehind r) k)
-  unfolding oneMore leftBehind
+      → TurnGives book unknowns wanted size budget ws′ out′ r y whole (On z (backRegs r) k)
+  unfolding oneMore backRegs
   more-by k z (written ls) a (given {e = j} g h o) q e p u =
       let i : j ≡ k = cc in
       let za : z .answers ≡ y .answers + 1 = ap (λ t. t .answers) p in
@@ -148,12 +148,11 @@ module _ (book : List ℕ) (unknowns wanted size budget : ℕ) (ws ws′ out out
       let v : y .answers + 1 ≡ wanted → ⊥ = λ x. u (za ∙ x) in
       let A = answer-agree (topsOf r) (H .sound) K in
       let x = e ∙ run-more (requestOf unknowns wanted size) _ _ _ y (M .lines) _ (H .branch-is .supposed-same) ls v in
-      turns-on {r′ = leftBehind r} {y′ = z} {end′ = k}
+      turns-on {r′ = backRegs r} {y′ = z} {end′ = k}
       (record {
         threads = H .rest;
         lines = M .lines ++ ls;
         stands = going-back refl (sound-agree A (H .sound)) (waiting-agree A (H .sound) (H .waiting));
-        numbers = after-numbers ws ws′ (M .numbers) K;
         indexed = all-same book (own-ready book (T .accepted)) (keeps-narrow (omega arith) (omega arith) K) (keeps-narrow (omega arith) (omega arith) K) (M .indexed);
         memo = memo-kept (keeps-narrow (omega arith) (omega (arith, H .sound .programs-most)) K) (keeps-narrow (omega arith) (omega arith) K) (omega arith) (omega arith) (M .memo);
         within = omega arith;
@@ -178,6 +177,6 @@ module _ (book : List ℕ) (unknowns wanted size budget : ℕ) (ws ws′ out out
     pub answer-enough : (k : ℕ) (z : Tally) → a ≡ answered.Written k → z ≡ oneMore y (r .supposed) → z .answers ≡ wanted → TurnGives book unknowns wanted size budget ws′ out′ r y whole (Over Enough z)
     answer-enough k z q p u = enough-by k z W a G q whole-is p u
 
-    pub answer-more : (k : ℕ) (z : Tally) (x : Regs) → a ≡ answered.Written k → z ≡ oneMore y (r .supposed) → (z .answers ≡ wanted → ⊥) → x ≡ leftBehind r
+    pub answer-more : (k : ℕ) (z : Tally) (x : Regs) → a ≡ answered.Written k → z ≡ oneMore y (r .supposed) → (z .answers ≡ wanted → ⊥) → x ≡ backRegs r
         → TurnGives book unknowns wanted size budget ws′ out′ r y whole (On z x k)
     answer-more k z x q p u xe = rw xe (more-by k z W a G q whole-is p u)

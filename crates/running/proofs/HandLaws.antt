@@ -19,6 +19,11 @@ use Rattle.words.proofs.FromAccepted.{readable}
 use Rattle.words.proofs.FrameLaws.{fits-most}
 use Rattle.words.proofs.StackLaws.{keeps-narrow}
 use Rattle.branch.specs.State.{Tops, IsGoals, IsGoals.no-goals, IsGoals.goal-cell, IsBranch, Sound, Waiting, Agree}
+use Rattle.branch.specs.Memo.{forgetWords, MemoOnly}
+use Rattle.branch.proofs.MemoLaws.{forget-only, forget-zero, memo-forgotten}
+use Rattle.branch.proofs.FromScoped.{own-ready}
+use Rattle.returning.proofs.MemoFrames.{indexed-only}
+use Rattle.taking.proofs.MemoFrames.{stands-only}
 use Rattle.steps.specs.declared.Regs.{Regs}
 use Rattle.steps.specs.Search.{runOut, runOn, topsOf, Stands, Stands.in-hand, Stands.going-back}
 use Rattle.answers.specs.Numbers.{NoNumbers}
@@ -62,15 +67,44 @@ answer-agree t {ws} S K =
       alternatives = keeps-narrow (omega arith) (omega (arith, S .alternatives-most)) K;
     }
 
--- WHAT A TURN ASKS FOR
+-- the workspace has its words, and they have room for the variables made
+pub words-size : {book ws : List ℕ} {r : Regs} {threads : List Thread} → Stands book ws r threads → r .solving ≡ true → (r .made ≤ 2048) × (length ws ≡ 16384)
+words-size S s = let X = hand S s .sound .slots in (X .room, X .size)
+
+-- AN ANSWER: before it is written, nothing is remembered any more in the words of its variables
 module _ (book : List ℕ) (unknowns wanted size budget : ℕ) (ws out : List ℕ) (r : Regs) (y : Tally) (end : ℕ) (whole : Result) (T : Taken book unknowns wanted size)
-    (M : Midway book unknowns wanted size budget ws out r y end whole) where
+    (M : Midway book unknowns wanted size budget ws out r y end whole) (s : r .solving ≡ true) (ws₁ : List ℕ) (e : ws₁ ≡ forgetWords (r .made) ws) where
+  abbrev S : Sound book ws (topsOf r)
+  S = hand (M .stands) s .sound
+
+  only : MemoOnly ws (forgetWords (r .made) ws)
+  only = forget-only (r .made) ws (S .slots .room)
+
+  -- the run is midway as before
+  pub midway-forgets : Midway book unknowns wanted size budget ws₁ out r y end whole
+  midway-forgets = rw e (record {
+    threads = M .threads;
+    lines = M .lines;
+    stands = stands-only only (M .stands);
+    indexed = indexed-only only (own-ready book (T .accepted)) (M .indexed);
+    memo = memo-forgotten (r .made) ws (S .slots .room) (S .slots .size) (S .programs-most) (M .memo);
+    within = M .within;
+    fewer = M .fewer;
+    assumed-few = M .assumed-few;
+    room = M .room;
+    buffer = M .buffer;
+    end-is = M .end-is;
+    same-run = M .same-run;
+  })
+
   unknowns-few : unknowns ≤ 64
   unknowns-few = rw (T .unknowns-are) (question-fields book (T .accepted .formed .fields) (lastRecord book) (last-below book (T .accepted)) (last-question book (T .accepted)) .3)
 
-  -- writing an answer
-  pub answer-ready : r .solving ≡ true → Readable book × (Slots book (r .made) ws × (((unknowns ≤ r .made) × (unknowns ≤ 256) × (end ≤ size) × (size ≤ 65536)) × NoNumbers ws))
-  answer-ready s =
-      let S = hand (M .stands) s .sound in
-      let u = unknowns-few in
-      (readable book (T .accepted), (S .slots, ((rw (T .unknowns-are) (S .unknowns), omega arith, omega (arith, M .room, M .end-is), T .size-most), M .numbers)))
+  -- and the answer can be written
+  pub answer-ready : Readable book × (Slots book (r .made) ws₁ × (((unknowns ≤ r .made) × (unknowns ≤ 256) × (end ≤ size) × (size ≤ 65536)) × NoNumbers (r .made) ws₁))
+  answer-ready =
+      let X = hand (midway-forgets .stands) s .sound in
+      let u = unknowns-few in (
+        readable book (T .accepted),
+        (X .slots, ((rw (T .unknowns-are) (S .unknowns), omega arith, omega (arith, M .room, M .end-is), T .size-most), λ v l. rw e (forget-zero (r .made) ws (S .slots .room) (S .slots .size) (13568 + v) (omega arith) (omega arith)))),
+      )

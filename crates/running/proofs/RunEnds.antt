@@ -16,7 +16,6 @@ use Rattle.steps.specs.declared.Regs.{Regs}
 use Rattle.steps.specs.Search.{runOut, runOn, Stands}
 use Rattle.branch.specs.Seeking.{AllIndexed}
 use Rattle.branch.specs.Memo.{Memo}
-use Rattle.answers.specs.Numbers.{NoNumbers}
 use Rattle.running.specs.declared.Turned.{Turned}
 use Rattle.running.specs.declared.Turned.the-variants.{On, Over}
 use Rattle.running.specs.Turns.{Taken, requestOf, Midway, ahead, TurnGives, TurnGives.turns-on, TurnGives.turns-over}
@@ -27,15 +26,14 @@ unfolding runOf solved questionOf runOn goOn runOut start
 whole-run book unknowns wanted budget size e = rw e refl
 
 pub midway-start : (book : List ℕ) (unknowns wanted budget : ℕ) (ws out : List ℕ) (r : Regs) (y : Tally) → y ≡ noCounts → Taken book unknowns wanted (length out) → Stands book ws r (start (questionOf book) .thread ∷ [])
-    → NoNumbers ws × AllIndexed book ws × Memo book ws (r .programs) budget → out ≡ replicate (length out) 0 → Midway book unknowns wanted (length out) budget ws out r y 0 (runOf book budget wanted (length out))
+    → AllIndexed book ws × Memo book ws (r .programs) budget → out ≡ replicate (length out) 0 → Midway book unknowns wanted (length out) budget ws out r y 0 (runOf book budget wanted (length out))
 unfolding filledBuffer bytesOf
 midway-start book unknowns wanted budget ws out r y e T S N z = rw e (record {
   threads = start (questionOf book) .thread ∷ [];
   lines = [];
   stands = S;
-  numbers = N .0;
-  indexed = N .1;
-  memo = rw (sub-zero budget) (N .2);
+  indexed = N .0;
+  memo = rw (sub-zero budget) (N .1);
   within = omega arith;
   fewer = omega (arith, T .wanted-some);
   assumed-few = omega arith;

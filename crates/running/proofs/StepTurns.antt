@@ -77,7 +77,6 @@ module _ (book : List ℕ) (unknowns wanted size budget : ℕ) (ws out : List �
         threads = ts;
         lines = M .lines;
         stands = S;
-        numbers = λ v l. k .numbers .same (13568 + v) (omega arith) (omega arith) ∙ M .numbers v l;
         indexed = all-same book (own-ready book (T .accepted)) (k .index) (k .free) (M .indexed);
         memo = rw z at m;
         within = omega arith;

@@ -19,7 +19,6 @@ use Rattle.steps.specs.declared.Stepped.the-variants.{Onward, Finished}
 use Rattle.steps.specs.Search.{runOn, spentUnits, Stands, phase}
 use Rattle.branch.specs.Seeking.{AllIndexed}
 use Rattle.branch.specs.Memo.{Memo}
-use Rattle.answers.specs.Numbers.{NoNumbers}
 use Rattle.running.specs.declared.Turned.{Turned}
 use Rattle.running.specs.declared.Turned.the-variants.{On, Over}
 
@@ -41,7 +40,6 @@ pub record Midway (book : List ℕ) (unknowns wanted size budget : ℕ) (ws out 
   pub threads : List Thread
   pub lines : List Line
   pub stands : Stands book ws r threads
-  pub numbers : NoNumbers ws
   pub indexed : AllIndexed book ws
   pub memo : Memo book ws (r .programs) (budget - y .units)
   pub within : y .units ≤ budget
@@ -71,11 +69,6 @@ answerDue r = r .solving && eqb (r .cell) 0
 unfoldable pub oneMore : Tally → Bool → Tally
 oneMore y supposed = record
     { units = y .units + 1; answers = y .answers + 1; assumed = elim supposed [ true ↦ y .assumed + 1 | false ↦ y .assumed ] }
-
--- the branch in hand is done with: the registers for going back
-unfoldable pub leftBehind : Regs → Regs
-leftBehind r = record
-    { made = r .made; trail = r .trail; cells = r .cells; programs = r .programs; alternatives = r .alternatives; cell = 0; taken = 0; supposed = false; solving = false }
 
 -- a turn that is a step
 unfoldable pub turnBy : Tally → ℕ → Stepped → Turned

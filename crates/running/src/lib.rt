@@ -10,11 +10,10 @@ ghost use Rattle.machine.specs.Call.{noCounts, runOf, filledBuffer};
 ghost use Rattle.steps.specs.Search.{Stands, spentUnits, unitsOf};
 ghost use Rattle.branch.specs.Seeking.{AllIndexed};
 ghost use Rattle.branch.specs.Memo.{Memo};
-ghost use Rattle.answers.specs.Numbers.{NoNumbers};
 ghost use Rattle.book.proofs.Accepted.{Accepted};
 ghost use Rattle.machine.specs.Machine.{Thread};
 ghost use Rattle.returning.specs.Reaching.{ReachContract, MemoReached};
-ghost use Rattle.running.specs.Turns.{answerDue, Taken, Midway, TurnGives, oneMore, leftBehind, turnBy};
+ghost use Rattle.running.specs.Turns.{answerDue, Taken, Midway, TurnGives, oneMore, turnBy};
 use answers::Answered;
 use machine::Ending;
 use machine::Limit;
@@ -67,23 +66,6 @@ fn count_answer(y: Tally, supposed: bool) -> Tally
     }
 }
 
-// The branch in hand is done with: go back.
-fn leave(r: Regs) -> Regs
-    ensures { λ x. ⌜ x ≡ leftBehind r ⌝ }
-{
-    Regs {
-        made: r.made,
-        trail: r.trail,
-        cells: r.cells,
-        programs: r.programs,
-        alternatives: r.alternatives,
-        cell: 0,
-        taken: 0,
-        supposed: false,
-        solving: false,
-    }
-}
-
 // A step as a turn.
 fn step_taken(y: Tally, end: usize, s: Stepped) -> Turned
     requires { ⌜ y .units + unitsOf s < 4294967296 ⌝ }
@@ -113,6 +95,7 @@ fn answer(
     ensures { λ o. ⌜ ((whole : Result) → Midway (now (book .entry)) unknowns wanted (length (now (out .entry))) budget (now (ws .entry)) (now (out .entry)) r y end whole
         → TurnGives (now (book .entry)) unknowns wanted (length (now (out .entry))) budget (now (ws .exit)) (now (out .exit)) r y whole o) ⌝ }
 {
+    branch::forget(ws, r.made);
     let k = y.answers as u16;
     match answers::write_answer(book, r.made, ws, out, end, k, unknowns) {
         Answered::Cut(m) => Turned::Over(Ending::Stopped(m), y),
@@ -121,7 +104,7 @@ fn answer(
             if z.answers == wanted {
                 return Turned::Over(Ending::Enough, z);
             }
-            Turned::On(z, leave(r), e)
+            Turned::On(z, steps::to_back(r), e)
         }
     }
 }
@@ -197,7 +180,7 @@ pub fn run(
 ) -> Ran
     requires { ⌜ Taken (now book) unknowns wanted (length (now out)) ⌝ }
     requires { ⌜ Stands (now book) (now ws) start (startOf (questionOf (now book)) .thread ∷ []) ⌝ }
-    requires { ⌜ NoNumbers (now ws) × AllIndexed (now book) (now ws) × Memo (now book) (now ws) (start .programs) budget ⌝ }
+    requires { ⌜ AllIndexed (now book) (now ws) × Memo (now book) (now ws) (start .programs) budget ⌝ }
     requires { ⌜ tally ≡ noCounts ⌝ }
     requires { ⌜ now out ≡ replicate (length (now out)) 0 ⌝ }
     ensures { λ x. ⌜ (x .ending ≡ runOf (now (book .entry)) budget wanted (length (now (out .entry))) .ending)

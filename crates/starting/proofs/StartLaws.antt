@@ -38,7 +38,6 @@ use Rattle.branch.specs.State.{Tops, GoalHere, IsRest, IsRest.own-rest, IsProgr
 use Rattle.branch.proofs.TakeLaws.{put-outside, cell-word}
 use Rattle.steps.specs.declared.Regs.{Regs}
 use Rattle.steps.specs.Search.{topsOf, Stands, Stands.in-hand}
-use Rattle.answers.specs.Numbers.{NoNumbers}
 use Rattle.running.specs.Turns.{Taken}
 use Rattle.starting.specs.Start.{startWords, startRegs, Ready}
 
@@ -58,7 +57,7 @@ made-is : (book : List ℕ) → startRegs book .made ≡ field book (lastRecord 
 unfolding startRegs
 made-is book = refl
 
-module _ (book : List ℕ) (A : Accepted book) (ws : List ℕ) (size : length ws ≡ 16384) (z : (k : ℕ) → k < 64 → getD ws k 0 ≡ 0) (numbers : NoNumbers ws) (I : AllIndexed book ws) where
+module _ (book : List ℕ) (A : Accepted book) (ws : List ℕ) (size : length ws ≡ 16384) (z : (k : ℕ) → k < 64 → getD ws k 0 ≡ 0) (I : AllIndexed book ws) where
   abbrev last : ℕ
   last = lastRecord book
 
@@ -74,22 +73,15 @@ module _ (book : List ℕ) (A : Accepted book) (ws : List ℕ) (size : length ws
   goal-below : (goal < last) × (isGoal (kindAt book goal) ≡ true)
   goal-below = question-goal book (A .formed) last (last-below book A) (last-question book A)
 
-  -- below the goal cells, and above the first, the words are still 0
+  -- below the goal cells the words are still 0
   below : Keeps 0 6146 ws (startWords book ws)
   unfolding startWords
   below = put-outside 0 6146 1 (termWord goal 0) 0 0 ws (inr (omega arith))
 
-  above : Keeps 13568 15616 ws (startWords book ws)
-  unfolding startWords
-  above = put-outside 13568 15616 1 (termWord goal 0) 0 0 ws (inl (omega arith))
-
-  pub start-numbers : NoNumbers (startWords book ws)
-  start-numbers v l = above .same (13568 + v) (omega arith) (omega arith) ∙ numbers v l
-
-  -- nor is the memo: nothing is remembered
-  pub start-memo : {budget : ℕ} → ((k : ℕ) → k < 240 → getD ws (13328 + k) 0 ≡ 0) → Memo book (startWords book ws) (startRegs book .programs) budget
+  -- nothing is remembered
+  pub start-memo : {budget : ℕ} → ((k : ℕ) → 13568 ≤ k → k < 15616 → getD ws k 0 ≡ 0) → Memo book (startWords book ws) (startRegs book .programs) budget
   unfolding startWords startRegs
-  start-memo Z = memo-none (λ e b. put-outside 13328 13568 1 (termWord goal 0) 0 0 ws (inl (omega arith)) .same (13328 + 3 * e) (omega arith) (omega arith) ∙ Z (3 * e) (omega arith))
+  start-memo Z = memo-none (λ e b. put-outside 13568 15616 1 (termWord goal 0) 0 0 ws (inl (omega arith)) .same (13568 + 2 * e) (omega arith) (omega arith) ∙ Z (13568 + 2 * e) (omega arith) (omega arith))
 
   -- the indexes are not touched
   start-free : Keeps 12304 13328 ws (startWords book ws)
@@ -198,11 +190,8 @@ module _ (book : List ℕ) (wanted budget : ℕ) (ws ws₁ ws₂ ws₃ out : Lis
   above-here : (k : ℕ) → 13328 ≤ k → k < 16384 → getD ws₂ k 0 ≡ getD ws k 0
   above-here k a b = rw S (supposed-keeps book (records book) 13328 16384 ws₁ (inr (inr (omega arith))) .same k a b) ∙ I .above .same k (omega (arith, most)) b
 
-  numbers-here : NoNumbers ws₂
-  numbers-here v l = above-here (13568 + v) (omega arith) (omega arith) ∙ R .numbers v l
-
-  memo-here : (k : ℕ) → k < 240 → getD ws₂ (13328 + k) 0 ≡ 0
-  memo-here k l = above-here (13328 + k) (omega arith) (omega arith) ∙ R .memo k l
+  memo-here : (k : ℕ) → 13568 ≤ k → k < 15616 → getD ws₂ k 0 ≡ 0
+  memo-here k a b = above-here k (omega arith) (omega arith) ∙ R .memo k a b
 
   indexed-here : AllIndexed book ws₂
   indexed-here = rw S (record {
@@ -210,7 +199,7 @@ module _ (book : List ℕ) (wanted budget : ℕ) (ws ws₁ ws₂ ws₃ out : Lis
     supposed = supposed-all book (R .accepted) ws₁ size-own;
   })
 
-  pub run-ready : Taken book (r .made) wanted (length out) × (Stands book ws₃ r (start (questionOf book) .thread ∷ []) × ((NoNumbers ws₃ × AllIndexed book ws₃ × Memo book ws₃ (r .programs) budget) × ((so ≡ noCounts) × (out ≡ replicate (length out) 0))))
+  pub run-ready : Taken book (r .made) wanted (length out) × (Stands book ws₃ r (start (questionOf book) .thread ∷ []) × ((AllIndexed book ws₃ × Memo book ws₃ (r .programs) budget) × ((so ≡ noCounts) × (out ≡ replicate (length out) 0))))
   run-ready = (
     record {
       accepted = R .accepted;
@@ -220,12 +209,11 @@ module _ (book : List ℕ) (wanted budget : ℕ) (ws ws₁ ws₂ ws₃ out : Lis
       size-most = R .room;
     },
     (
-      rw (w, e) (stands-start book (R .accepted) ws₂ size-here open-here numbers-here indexed-here),
+      rw (w, e) (stands-start book (R .accepted) ws₂ size-here open-here indexed-here),
       (
         (
-          rw w (start-numbers book (R .accepted) ws₂ size-here open-here numbers-here indexed-here),
-          rw w (start-indexed book (R .accepted) ws₂ size-here open-here numbers-here indexed-here),
-          rw (w, e) (start-memo book (R .accepted) ws₂ size-here open-here numbers-here indexed-here memo-here),
+          rw w (start-indexed book (R .accepted) ws₂ size-here open-here indexed-here),
+          rw (w, e) (start-memo book (R .accepted) ws₂ size-here open-here indexed-here memo-here),
         ),
         (R .fresh, R .blank),
       ),

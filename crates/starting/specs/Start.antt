@@ -8,7 +8,6 @@ use Rattle.book.proofs.Accepted.{Accepted}
 use Rattle.machine.specs.declared.Ending.{Ending}
 use Rattle.machine.specs.declared.Tally.{Tally}
 use Rattle.machine.specs.Call.{noCounts, runOf, filledBuffer}
-use Rattle.answers.specs.Numbers.{NoNumbers}
 use Rattle.book.specs.Records.{field, lastRecord}
 use Rattle.words.specs.Words.{termWord}
 use Rattle.branch.specs.State.{putCell}
@@ -21,15 +20,13 @@ unfoldable pub startRegs : List ℕ → Regs
 startRegs book = record
     { made = field book (lastRecord book) 4; trail = 0; cells = 2; programs = 1; alternatives = 0; cell = 1; taken = 0; supposed = false; solving = true }
 
--- What the whole run is ready for: an accepted book; a workspace whose first slots, for the unknowns, and whose words for the memo and for an answer's variables are 0, the others anything;
+-- What the whole run is ready for: an accepted book; a workspace whose first slots, for the unknowns, and whose words for the memo are 0, the others anything;
 -- an answer buffer that is all zero; and nothing counted yet.
 pub record Ready (book ws out : List ℕ) (wanted budget : ℕ) (so : Tally) : Type 0 where
   pub accepted : Accepted book
   pub size : length ws ≡ 16384
   pub open-slots : (k : ℕ) → k < 64 → getD ws k 0 ≡ 0
-  pub numbers : NoNumbers ws
-  -- the words of the memo are 0
-  pub memo : (k : ℕ) → k < 240 → getD ws (13328 + k) 0 ≡ 0
+  pub memo : (k : ℕ) → 13568 ≤ k → k < 15616 → getD ws k 0 ≡ 0
   pub room : length out ≤ 65536
   pub wanted-some : 1 ≤ wanted
   pub wanted-most : wanted ≤ 64

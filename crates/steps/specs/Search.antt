@@ -33,17 +33,21 @@ spentUnits n y = record { units = y .units + n; answers = y .answers; assumed = 
 abbrev pub topsOf : Regs → Tops
 topsOf r = record { made = r .made; trail = r .trail; cells = r .cells; programs = r .programs; alternatives = r .alternatives }
 
+-- going back: there is no branch in hand
+unfoldable pub backRegs : Regs → Regs
+backRegs r = record
+    { made = r .made; trail = r .trail; cells = r .cells; programs = r .programs; alternatives = r .alternatives; cell = 0; taken = 0; supposed = false; solving = false }
+
 -- THE REPRESENTATION: the registers and the workspace stand for the threads. In the mode of going back there is no thread in hand.
 pub data Stands (book ws : List ℕ) (r : Regs) : List Thread → Type 0 where
   in-hand : {b : Branch} {threads : List Thread} → r .solving ≡ true → Sound book ws (topsOf r)
       → IsBranch book ws (topsOf r) (r .cell) (r .taken) (r .supposed) b → Waiting book ws (topsOf r) threads → Stands book ws r (solving b ∷ threads)
   going-back : {threads : List Thread} → r .solving ≡ false → Sound book ws (topsOf r) → Waiting book ws (topsOf r) threads → Stands book ws r threads
 
--- what a step leaves alone: the index of the question's own run, the words between the alternatives and the memo, and those in which an answer's variables are numbered
+-- what a step leaves alone: the index of the question's own run, and the words between the alternatives and the memo
 pub record Leaves (ws ws′ : List ℕ) : Type 0 where
   pub index : Keeps 4096 6144 ws ws′
   pub free : Keeps 12304 13328 ws ws′
-  pub numbers : Keeps 13568 15616 ws ws′
 
 -- 1 while going back, 0 with a branch in hand: a step without a unit can only go from the first to the second, so the search ends
 abbrev pub phase : Bool → ℕ

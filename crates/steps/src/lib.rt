@@ -4,6 +4,7 @@ ghost use Prim.Native.Nat.{_+_, _-_, _*_, _≤_, _<_};
 ghost use lib.ListN.{length, getD, set};
 ghost use Rattle.words.specs.Readable.{Readable};
 ghost use Rattle.steps.specs.Enters.{EnterReady, Enters};
+ghost use Rattle.steps.specs.Search.{backRegs};
 use machine::Ending;
 use unifier::Unified;
 
@@ -27,6 +28,23 @@ pub enum Stepped {
     Finished(Ending, u32),
 }
 
+// The registers for going back: there is no branch in hand.
+pub fn to_back(r: Regs) -> Regs
+    ensures { λ x. ⌜ x ≡ backRegs r ⌝ }
+{
+    Regs {
+        made: r.made,
+        trail: r.trail,
+        cells: r.cells,
+        programs: r.programs,
+        alternatives: r.alternatives,
+        cell: 0,
+        taken: 0,
+        supposed: false,
+        solving: false,
+    }
+}
+
 // Enters clause c, whose outer variables are from o on, for atom a at base e, and unifies.
 pub fn enter(
     book: &[u8],
@@ -48,7 +66,7 @@ pub fn enter(
     let t = words::field(book, c, 3);
     let h = words::field(book, c, 4);
     let m = words::field(book, a, 2);
-    branch::open_slots(ws, made, n);
+    words::clear_words(ws, made, n);
     branch::put_ties(book, ws, made, n, o, first, t);
     let from = words::field(book, a, 3);
     let other = words::field(book, h, 3);

@@ -17,14 +17,14 @@ use Rattle.branch.proofs.TakeLaws.{CellAt}
 use Rattle.steps.specs.declared.Regs.{Regs}
 use Rattle.steps.specs.declared.Stepped.the-variants.{Onward}
 use Rattle.steps.proofs.LeaveLaws.{leaves-none}
-use Rattle.steps.specs.Search.{topsOf, Stands.going-back, StepGives, StepGives.steps-on}
+use Rattle.steps.specs.Search.{topsOf, backRegs, Stands.going-back, StepGives, StepGives.steps-on}
 use Rattle.steps.proofs.RunLaws.{unit-gives}
 use Rattle.taking.specs.declared.Cell.{Cell}
 use Rattle.returning.specs.declared.Reached.{Reached}
 use Rattle.returning.specs.declared.Reached.the-variants.{Onward as ReachedOn, Clause}
 use Rattle.returning.specs.Returns.{atomOf, ToClause}
 use Rattle.returning.specs.Reaching.{ReachGives, ReachGives.reach-on, ReachGives.reach-clause}
-use Rattle.taking.specs.Takes.{backRegs, atomKept, atomReached, AtomTaken}
+use Rattle.taking.specs.Takes.{atomKept, atomReached, AtomTaken}
 use Rattle.taking.proofs.HandLaws.{Hand}
 use Rattle.taking.proofs.TakeRuns.{cellHere}
 

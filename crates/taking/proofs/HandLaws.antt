@@ -126,7 +126,6 @@ pub leaves-program : (p w q mark : ℕ) (ws : List ℕ) → p < 514 → Leaves w
 leaves-program p w q mark ws h = record {
   index = put-program-outside 4096 6144 p w q mark ws (inr (omega arith));
   free = put-program-outside 12304 13328 p w q mark ws (inl (omega arith));
-  numbers = put-program-outside 13568 15616 p w q mark ws (inl (omega arith));
 }
 
 -- and its third word is its mark

@@ -22,14 +22,14 @@ use Rattle.branch.proofs.MemoLaws.{memo-kept, memo-less, memo-put, tops-only}
 use Rattle.following.specs.declared.Followed.{Followed}
 use Rattle.steps.specs.declared.Regs.{Regs}
 use Rattle.steps.specs.declared.Stepped.{Stepped}
-use Rattle.steps.specs.Search.{Stands, Stands.in-hand, Stands.going-back, StepGives, StepGives.steps-on, StepGives.steps-end}
+use Rattle.steps.specs.Search.{backRegs, Stands, Stands.in-hand, Stands.going-back, StepGives, StepGives.steps-on, StepGives.steps-end}
 use Rattle.steps.proofs.LeaveLaws.{leaves-trans, leaves-only}
 use Rattle.returning.specs.declared.Reached.{Reached}
 use Rattle.returning.specs.declared.Reached.the-variants.{Onward, Finished}
 use Rattle.returning.specs.Reaching.{ReachGives, ReachGives.reach-on, ReachGives.reach-end, ReachGives.reach-clause, MemoReached}
 use Rattle.returning.proofs.MemoFrames.{clause-only}
 use Rattle.taking.specs.declared.Cell.{Cell}
-use Rattle.taking.specs.Takes.{Room, inHand, backRegs, andWords, andRegs, orKept, orWords, orRegs, putProgram, supposeWords, supposeRegs, atomKept, atomReached, AtomTaken, plainWords, plainRegs}
+use Rattle.taking.specs.Takes.{Room, inHand, andWords, andRegs, orKept, orWords, orRegs, putProgram, supposeWords, supposeRegs, atomKept, atomReached, AtomTaken, plainWords, plainRegs}
 use Rattle.taking.proofs.HandLaws.{put-program-outside, program-mark}
 
 -- NOTHING BUT THE MEMO DIFFERS
@@ -50,16 +50,16 @@ reach-only O (reach-clause {x = x} {k = k} {used = used} {threads′ = threads�
 -- THE MEMO STAYS RIGHT with fewer units, and with a goal cell, an alternative, a program put
 module _ {book ws : List ℕ} {programs left : ℕ} (M : Memo book ws programs left) where
   memo-cell : (c w p q : ℕ) → c < 1026 → Memo book (putCell c w p q ws) programs left
-  memo-cell c w p q h = memo-kept (put-outside 8200 (8200 + 3 * programs) c w p q ws (inl (omega arith))) (put-outside 13328 13568 c w p q ws (inl (omega arith))) (omega arith) (omega arith) M
+  memo-cell c w p q h = memo-kept (put-outside 8200 (8200 + 3 * programs) c w p q ws (inl (omega arith))) (put-outside 13568 15616 c w p q ws (inl (omega arith))) (omega arith) (omega arith) M
 
   memo-alternative : (k : ℕ) (x : Back) → k < 512 → length ws ≡ 16384 → programs ≤ 514 → Memo book (keepWords ws k x) programs left
   memo-alternative k x h l few =
-      memo-kept (kept-outside ws k x h l 8200 (8200 + 3 * programs) (inr (omega arith))) (kept-outside ws k x h l 13328 13568 (inl (omega arith))) (omega arith) (omega arith) M
+      memo-kept (kept-outside ws k x h l 8200 (8200 + 3 * programs) (inr (omega arith))) (kept-outside ws k x h l 13568 15616 (inl (omega arith))) (omega arith) (omega arith) M
 
   -- the units that are left are a new mark
   memo-program : (w q : ℕ) → length ws ≡ 16384 → programs < 514 → 0 < left → Memo book (putProgram programs w q left ws) (programs + 1) (left - 1)
   memo-program w q l few some =
-      memo-put (put-program-outside 8200 (8200 + 3 * programs) programs w q left ws (inr (omega arith))) (put-program-outside 13328 13568 programs w q left ws (inl (omega arith)))
+      memo-put (put-program-outside 8200 (8200 + 3 * programs) programs w q left ws (inr (omega arith))) (put-program-outside 13568 15616 programs w q left ws (inl (omega arith)))
       (program-mark programs w q left ws (omega arith)) some M
 
 -- WHERE TAKING A GOAL HAS COME TO

@@ -14,7 +14,8 @@ use Rattle.machine.specs.declared.Limit.the-variants.{Goals}
 use Rattle.machine.specs.declared.Ending.the-variants.{Stopped}
 use Rattle.machine.specs.Machine.{Thread, solving, Branch}
 use Rattle.words.specs.Words.{termWord, recOf, baseOf}
-use Rattle.words.specs.Readable.{Readable}
+use Rattle.words.specs.Readable.{Readable, HasArguments}
+use Rattle.steps.proofs.ReadyLaws.{has-atom}
 use Rattle.words.proofs.PackLaws.{rec-pack, base-pack, pack-large}
 use Rattle.words.proofs.ReadLaws.{in-book}
 use Rattle.branch.specs.Seeking.{Standing}
@@ -134,6 +135,11 @@ module _ (book ws : List ℕ) (r : Regs) (s : r .solving ≡ true) (c : 0 < r .c
   module _ (x : Cell) (xe : x ≡ cellOf ws (r .cell)) where
     pub goal-inside : x .goal < records book
     goal-inside = rw (xe, cell-read book ws r (some .0) face-some) (face-some .cell .here .inside)
+
+    pub goal-atom : (kind : ℕ) → kind ≡ field book (x .goal) 0 → kind < 5 → HasArguments book (x .goal)
+    goal-atom kind e k =
+        let g : isGoal (kindAt book (x .goal)) ≡ true = rw (xe, cell-read book ws r (some .0) face-some) (face-some .cell .here .kind) in
+        has-atom book (x .goal) goal-inside (atom-kind book (x .goal) g (rw e at k))
 
     pub take-room : Readable book → r .taken < 512 → Room ws r x
     take-room R l = rw (xe, cell-read book ws r (some .0) face-some) (room-here book ws r (some .0) face-some R l)

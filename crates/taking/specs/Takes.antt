@@ -16,6 +16,7 @@ use Rattle.branch.specs.Alternatives.{keepWords}
 use Rattle.following.specs.declared.Followed.{Followed}
 use Rattle.following.specs.Plain.{Chain}
 use Rattle.steps.specs.declared.Regs.{Regs}
+use Rattle.steps.specs.Search.{backRegs}
 use Rattle.returning.specs.declared.Reached.{Reached}
 use Rattle.returning.specs.declared.Reached.the-variants.{Onward, Clause}
 use Rattle.taking.specs.declared.Cell.{Cell}
@@ -49,11 +50,6 @@ inHand r cell programs alternatives supposed = record {
   supposed = supposed;
   solving = true;
 }
-
--- going back
-unfoldable pub backRegs : Regs → Regs
-backRegs r = record
-    { made = r .made; trail = r .trail; cells = r .cells; programs = r .programs; alternatives = r .alternatives; cell = 0; taken = 0; supposed = false; solving = false }
 
 -- And: left goal then right goal, both with the program of the whole.
 unfoldable pub andWords : List ℕ → Regs → Cell → List ℕ → List ℕ

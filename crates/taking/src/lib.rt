@@ -3,7 +3,7 @@ ghost use mathlib.Core.Path.{_≡_};
 ghost use mathlib.Core.Bool.{true, false};
 ghost use Prim.Native.Nat.{ℕ, _+_, _-_, _*_, _≤_, _<_};
 ghost use lib.ListN.{length, getD};
-ghost use Rattle.words.specs.Readable.{Readable};
+ghost use Rattle.words.specs.Readable.{Readable, HasArguments};
 ghost use Rattle.book.specs.Records.{records};
 ghost use Rattle.book.proofs.Accepted.{Accepted, Formed};
 ghost use Rattle.branch.specs.State.{flag};
@@ -13,7 +13,7 @@ ghost use Rattle.machine.specs.Machine.{Thread};
 ghost use mathlib.Core.List.{List};
 ghost use Rattle.steps.specs.Search.{Stands};
 ghost use Rattle.returning.specs.Reaching.{ReachContract, MemoReached};
-ghost use Rattle.taking.specs.Takes.{cellOf, Room, inHand, backRegs, andWords, andRegs, orWords, orRegs, putProgram, supposeWords, supposeRegs, atomKept, AtomTaken, PlainAhead, plainWords, plainRegs};
+ghost use Rattle.taking.specs.Takes.{cellOf, Room, inHand, andWords, andRegs, orWords, orRegs, putProgram, supposeWords, supposeRegs, atomKept, AtomTaken, PlainAhead, plainWords, plainRegs};
 use branch::Back;
 use branch::Candidate;
 use following::Followed;
@@ -150,23 +150,6 @@ fn take_suppose(book: &[u8], ws: &mut [u32], r: Regs, x: Cell, left: u32) -> Reg
     in_hand(r, cells, program + 1, r.alternatives, true)
 }
 
-// The registers for going back.
-fn to_back(r: Regs) -> Regs
-    ensures { λ x. ⌜ x ≡ backRegs r ⌝ }
-{
-    Regs {
-        made: r.made,
-        trail: r.trail,
-        cells: r.cells,
-        programs: r.programs,
-        alternatives: r.alternatives,
-        cell: 0,
-        taken: 0,
-        supposed: false,
-        solving: false,
-    }
-}
-
 // The numbers for the atom of cell x with the candidate that is clause i of program q.
 fn at_clause(r: Regs, x: Cell, q: u32, i: u32) -> Back
     requires { ⌜ r .taken < 512 ⌝ }
@@ -244,7 +227,7 @@ fn take_atom(book: &[u8], ws: &mut [u32], r: Regs, x: Cell) -> Reached
     requires { ⌜ Readable (now book) ⌝ }
     requires { ⌜ Formed (now book) × OwnReady (now book) 0 × AllIndexed (now book) (now ws) ⌝ }
     requires { ⌜ Standing (now book) (now ws) (r .made) (r .programs) (x .program) 0 ⌝ }
-    requires { ⌜ x .goal < records (now book) ⌝ }
+    requires { ⌜ HasArguments (now book) (x .goal) ⌝ }
     requires { ⌜ Room (now ws) r x ⌝ }
     requires { ⌜ ((left : ℕ) × Memo (now book) (now ws) (r .programs) left) ⌝ }
     ensures { λ y. ⌜ AtomTaken (now (book .entry)) (now (ws .entry)) r x y ⌝ }
@@ -254,7 +237,7 @@ fn take_atom(book: &[u8], ws: &mut [u32], r: Regs, x: Cell) -> Reached
     let m = words::field(book, x.goal, 2);
     match branch::seek_first(book, r.made, ws, r.programs, x.program, f, m) {
         Candidate::At(q, i) => Reached::Clause(1, at_clause(r, x, q, i), r.alternatives),
-        Candidate::Nothing => Reached::Onward(1, to_back(r)),
+        Candidate::Nothing => Reached::Onward(1, steps::to_back(r)),
     }
 }
 

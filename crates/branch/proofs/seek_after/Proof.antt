@@ -14,7 +14,7 @@ use Rattle.branch.proofs.seek_before.Reads as seek-before-reads
 use Rattle.branch.proofs.found.Reads as found-reads
 
 own-after-requires : tie.Need-own-after-requires
-own-after-requires c κs = let p = c .before .before .before .before .pre in (p .0, ((p .1 .0 .1, p .1 .1 .1 .0 .0, p .1 .0 .2), ((p .1 .1 .1 .0 .2, p .1 .1 .1 .0 .3), own-matches _ (p .1 .0 .0) _ _ _ _ _ _ _ (p .1 .0 .1) (c .before .if1 .taken) (p .1 .1 .0))))
+own-after-requires c κs = let p = c .before .before .before .before .pre in (p .0, ((p .1 .0 .1, p .1 .1 .1 .0 .0, p .1 .0 .2), ((p .1 .1 .1 .0 .2, omega (arith, p .1 .1 .1 .0 .3)), own-matches _ (p .1 .0 .0) _ _ _ _ _ _ _ (p .1 .0 .1) (c .before .if1 .taken) (p .1 .1 .0))))
 
 same-length : tie.Need-same-length
 same-length c = search needs
@@ -66,11 +66,11 @@ slice-read-q : tie.Need-slice-read-q
 slice-read-q c = let p = c .before .before .before .before .before .before .before .before .pre in let y = c .before .before .before .before .before .if1 .left in let x = put-at (omega arith) (candidate-put _ (p .0) (p .1 .0 .0) _ _ _ _ _ _ _ (omega arith) (p .1 .1 .0) .1 .1) in omega (arith, x .below, p .1 .1 .1 .0 .0, p .1 .1 .1 .0 .1)
 
 seek-before-requires : tie.Need-seek-before-requires
-seek-before-requires c κs = let p = c .before .before .before .before .before .before .before .before .before .pre in let y = c .before .before .before .before .before .before .if1 .left in let x = put-at (omega arith) (candidate-put _ (p .0) (p .1 .0 .0) _ _ _ _ _ _ _ (omega arith) (p .1 .1 .0) .1 .1) in (p .0, ((p .1 .0 .0, p .1 .0 .2), ((x .program, rw (x .link) (x .before)), p .1 .1 .1)))
+seek-before-requires c κs = let p = c .before .before .before .before .before .before .before .before .before .pre in let y = c .before .before .before .before .before .before .if1 .left in let x = put-at (omega arith) (candidate-put _ (p .0) (p .1 .0 .0) _ _ _ _ _ _ _ (omega arith) (p .1 .1 .0) .1 .1) in (p .0, record { formed = p .1 .0 .0; indexed = p .1 .0 .2; standing = (x .program, rw (x .link) (x .before)); size = p .1 .1 .1 .0 .0; few = p .1 .1 .1 .0 .1; symbol = p .1 .1 .1 .0 .2; count = p .1 .1 .1 .0 .3; memo = p .1 .1 .1 .1 })
 
 found-requires : tie.Need-found-requires
 found-requires c κs = let p = c .before .before .before .before .before .before .before .before .before .before .before .before .before .pre in let n = p .1 .1 .1 .0 in let K = c .before .before .before .seek-before .ensures .1 .0 .below in
-    (p .0, ((p .1 .0 .0, p .1 .0 .1, all-same _ (p .1 .0 .1) (keeps-narrow (omega arith) (omega arith) K) (keeps-narrow (omega arith) (omega arith) K) (p .1 .0 .2)), (K .size ∙ n .0, n .2, n .3)))
+    (p .0, ((p .1 .0 .0, p .1 .0 .1, all-same _ (p .1 .0 .1) (keeps-narrow (omega arith) (omega arith) K) (keeps-narrow (omega arith) (omega arith) K) (p .1 .0 .2)), (K .size ∙ n .0, n .2, omega (arith, n .3))))
 
 same-length-3 : tie.Need-same-length-3
 same-length-3 c = search needs

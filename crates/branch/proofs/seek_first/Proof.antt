@@ -11,11 +11,11 @@ use Rattle.branch.proofs.seek_programs.Reads as seek-programs-reads
 use Rattle.branch.proofs.found.Reads as found-reads
 
 seek-programs-requires : tie.Need-seek-programs-requires
-seek-programs-requires c κs = let p = c .before .before .before .pre in (p .0, ((p .1 .0 .0, p .1 .0 .2), p .1 .1))
+seek-programs-requires c κs = let p = c .before .before .before .pre in (p .0, p .1 .1)
 
 found-requires : tie.Need-found-requires
-found-requires c κs = let p = c .before .before .before .before .before .before .before .pre in let n = p .1 .1 .1 .0 in let K = c .before .before .before .seek-programs .ensures .1 .0 .below in
-    (p .0, ((p .1 .0 .0, p .1 .0 .1, all-same _ (p .1 .0 .1) (keeps-narrow (omega arith) (omega arith) K) (keeps-narrow (omega arith) (omega arith) K) (p .1 .0 .2)), (K .size ∙ n .0, n .2, n .3)))
+found-requires c κs = let p = c .before .before .before .before .before .before .before .pre in let S = p .1 .1 in let K = c .before .before .before .seek-programs .ensures .1 .0 .below in
+    (p .0, ((S .formed, p .1 .0, all-same _ (p .1 .0) (keeps-narrow (omega arith) (omega arith) K) (keeps-narrow (omega arith) (omega arith) K) (S .indexed)), (K .size ∙ S .size, S .symbol, omega (arith, S .count))))
 
 same-length : tie.Need-same-length
 same-length c = search needs

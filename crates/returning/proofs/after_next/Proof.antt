@@ -2,7 +2,7 @@ use native.Mathlib.Omega.{arith}
 use mathlib.Core.Path.{refl}
 use Rattle.branch.proofs.FromScoped.{own-ready}
 use borrow.Author.Needs.{needs}
-use Rattle.returning.proofs.RenewLaws.{atom-large, atom-inside, candidate-here, next-is}
+use Rattle.returning.proofs.RenewLaws.{atom-large, atom-inside, atom-few, candidate-here, next-is}
 use Rattle.returning.proofs.MemoFrames.{next-only}
 use Rattle.returning.proofs.after_next.Statement.{statement}
 use Rattle.returning.proofs.after_next.Tie as tie
@@ -25,7 +25,7 @@ field-requires-2 c κs = let p = c .before .before .before .before .pre in (p .0
 
 -- src/lib.rt:232:5
 seek-after-requires : tie.Need-seek-after-requires
-seek-after-requires c κs = let p = c .before .before .before .before .before .before .pre in let X = p .1 .1 .0 .1 in (p .0, ((p .1 .0 .0 .formed, own-ready _ (p .1 .0 .0), p .1 .0 .1), (candidate-here _ _ _ _ _ X _ _ _ refl (c .before .before .field .ensures .0) (c .before .field2 .ensures .0), ((X .again .sound .slots .size, X .again .sound .programs-most, c .before .before .field .ensures .1, c .before .field2 .ensures .1), p .1 .1 .1))))
+seek-after-requires c κs = let p = c .before .before .before .before .before .before .pre in let X = p .1 .1 .0 .1 in (p .0, ((p .1 .0 .0 .formed, own-ready _ (p .1 .0 .0), p .1 .0 .1), (candidate-here _ _ _ _ _ X _ _ _ refl (c .before .before .field .ensures .0) (c .before .field2 .ensures .0), ((X .again .sound .slots .size, X .again .sound .programs-most, c .before .before .field .ensures .1, rw (c .before .field2 .ensures .0) (atom-few _ _ _ _ _ X (p .0))), p .1 .1 .1))))
 
 same-length : tie.Need-same-length
 same-length c = search needs

@@ -5,7 +5,7 @@ use Rattle.steps.proofs.enter.Statement.{statement}
 use Rattle.steps.proofs.enter.Tie as tie
 use Rattle.steps.proofs.enter.Reads as reads
 use Rattle.steps.proofs.enter.Lts as lts
-use Rattle.branch.proofs.open_slots.Reads as open-slots-reads
+use Rattle.words.proofs.clear_words.Reads as clear-words-reads
 use Rattle.branch.proofs.put_ties.Reads as put-ties-reads
 use Rattle.unifier.proofs.unify.Reads as unify-reads
 use Rattle.words.proofs.field.Reads as field-reads
@@ -31,12 +31,12 @@ field-requires-5 : tie.Need-field-requires-5
 field-requires-5 c κs = search needs
 
 -- src/lib.rt:50:5
-open-slots-requires : tie.Need-open-slots-requires
-open-slots-requires c κs = search needs
+clear-words-requires : tie.Need-clear-words-requires
+clear-words-requires c κs = search needs
 
 -- src/lib.rt:51:5
 put-ties-requires : tie.Need-put-ties-requires
-put-ties-requires c κs = let p = c .before .before .before .before .before .before .before .before .before .before .before .before .pre in let x = ties-ready _ (p .0) _ _ _ _ _ _ _ (p .1) _ _ _ _ (c .before .before .before .before .before .before .before .before .before .field .ensures .0) (c .before .before .before .before .before .before .before .before .field2 .ensures .0) (c .before .before .before .before .before .before .before .field3 .ensures .0) (c .before .before .before .open-slots .ensures) in (p .0, (x .0, x .1))
+put-ties-requires c κs = let p = c .before .before .before .before .before .before .before .before .before .before .before .before .pre in let x = ties-ready _ (p .0) _ _ _ _ _ _ _ (p .1) _ _ _ _ (c .before .before .before .before .before .before .before .before .before .field .ensures .0) (c .before .before .before .before .before .before .before .before .field2 .ensures .0) (c .before .before .before .before .before .before .before .field3 .ensures .0) (c .before .before .before .clear-words .ensures) in (p .0, (x .0, x .1))
 
 -- src/lib.rt:52:9
 field-requires-6 : tie.Need-field-requires-6
@@ -52,7 +52,7 @@ add-unify c = let p = c .before .before .before .before .before .before .before 
 
 -- src/lib.rt:54:5
 unify-requires : tie.Need-unify-requires
-unify-requires c κs = let p = c .before .before .before .before .before .before .before .before .before .before .before .before .before .before .before .before .before .before .pre in (p .0, unify-ready _ (p .0) _ _ _ _ _ _ _ (p .1) _ _ _ _ _ _ _ _ _ (c .before .before .before .before .before .before .before .before .before .before .before .before .before .before .before .field .ensures .0) (c .before .before .before .before .before .before .before .before .before .before .before .before .before .before .field2 .ensures .0) (c .before .before .before .before .before .before .before .before .before .before .before .before .before .field3 .ensures .0) (c .before .before .before .before .before .before .before .before .before .before .before .before .field4 .ensures .0) (c .before .before .before .before .before .before .before .before .before .before .before .field5 .ensures .0) (c .before .before .field6 .ensures .0) (c .before .field7 .ensures .0) (c .before .before .before .before .before .before .before .before .before .open-slots .ensures) (c .before .before .before .before .before .put-ties .ensures))
+unify-requires c κs = let p = c .before .before .before .before .before .before .before .before .before .before .before .before .before .before .before .before .before .before .pre in (p .0, unify-ready _ (p .0) _ _ _ _ _ _ _ (p .1) _ _ _ _ _ _ _ _ _ (c .before .before .before .before .before .before .before .before .before .before .before .before .before .before .before .field .ensures .0) (c .before .before .before .before .before .before .before .before .before .before .before .before .before .before .field2 .ensures .0) (c .before .before .before .before .before .before .before .before .before .before .before .before .before .field3 .ensures .0) (c .before .before .before .before .before .before .before .before .before .before .before .before .field4 .ensures .0) (c .before .before .before .before .before .before .before .before .before .before .before .field5 .ensures .0) (c .before .before .field6 .ensures .0) (c .before .field7 .ensures .0) (c .before .before .before .before .before .before .before .before .before .clear-words .ensures) (c .before .before .before .before .before .put-ties .ensures))
 
 -- src/lib.rt:30:1
 same-length : tie.Need-same-length
@@ -60,7 +60,7 @@ same-length c = search needs
 
 -- src/lib.rt:30:1
 returns : tie.Need-returns
-returns c = let p = c .before .before .before .before .before .before .before .before .before .before .before .before .before .before .before .before .before .before .before .before .before .pre in entering-ends _ (p .0) _ _ _ _ _ _ _ (p .1) _ _ _ _ _ _ _ _ _ _ _ _ (c .before .before .before .before .before .before .before .before .before .before .before .before .before .before .before .before .before .before .field .ensures .0) (c .before .before .before .before .before .before .before .before .before .before .before .before .before .before .before .before .before .field2 .ensures .0) (c .before .before .before .before .before .before .before .before .before .before .before .before .before .before .before .before .field3 .ensures .0) (c .before .before .before .before .before .before .before .before .before .before .before .before .before .before .before .field4 .ensures .0) (c .before .before .before .before .before .before .before .before .before .before .before .before .before .before .field5 .ensures .0) (c .before .before .before .before .before .field6 .ensures .0) (c .before .before .before .before .field7 .ensures .0) (c .before .before .before .before .before .before .before .before .before .before .before .before .open-slots .ensures) (c .before .before .before .before .before .before .before .before .put-ties .ensures) (c .before .before .unify .ensures)
+returns c = let p = c .before .before .before .before .before .before .before .before .before .before .before .before .before .before .before .before .before .before .before .before .before .pre in entering-ends _ (p .0) _ _ _ _ _ _ _ (p .1) _ _ _ _ _ _ _ _ _ _ _ _ (c .before .before .before .before .before .before .before .before .before .before .before .before .before .before .before .before .before .before .field .ensures .0) (c .before .before .before .before .before .before .before .before .before .before .before .before .before .before .before .before .before .field2 .ensures .0) (c .before .before .before .before .before .before .before .before .before .before .before .before .before .before .before .before .field3 .ensures .0) (c .before .before .before .before .before .before .before .before .before .before .before .before .before .before .before .field4 .ensures .0) (c .before .before .before .before .before .before .before .before .before .before .before .before .before .before .field5 .ensures .0) (c .before .before .before .before .before .field6 .ensures .0) (c .before .before .before .before .field7 .ensures .0) (c .before .before .before .before .before .before .before .before .before .before .before .before .clear-words .ensures) (c .before .before .before .before .before .before .before .before .put-ties .ensures) (c .before .before .unify .ensures)
 
 pub enter-spec : {M : Type 1} → statement M
 enter-spec =
@@ -71,7 +71,7 @@ enter-spec =
     field-requires-3
     field-requires-4
     field-requires-5
-    open-slots-requires
+    clear-words-requires
     put-ties-requires
     field-requires-6
     field-requires-7

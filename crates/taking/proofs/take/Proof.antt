@@ -1,7 +1,7 @@
 use native.Mathlib.Omega.{arith}
 use Rattle.words.proofs.ReadLaws.{in-book}
 use Rattle.taking.proofs.MemoFrames.{memo-ended, memo-atom, memo-and, memo-or, memo-suppose, memo-plain}
-use Rattle.taking.proofs.TakingLaws.{stops, read-ready, goal-inside, take-room, take-standing, takes-atom, takes-plain, takes-and, takes-or, takes-suppose}
+use Rattle.taking.proofs.TakingLaws.{stops, read-ready, goal-inside, goal-atom, take-room, take-standing, takes-atom, takes-plain, takes-and, takes-or, takes-suppose}
 use borrow.Author.Needs.{needs}
 use Rattle.taking.proofs.take.Statement.{statement}
 use Rattle.taking.proofs.take.Tie as tie
@@ -50,7 +50,7 @@ returns-2 c = let p = c .before .before .before .before .before .before .before 
 
 -- src/lib.rt
 take-atom-requires : tie.Need-take-atom-requires
-take-atom-requires c κs = let p = c .before .before .before .before .before .before .before .before .before .before .before .before .before .pre in (p .0, ((p .1 .0 .0 .formed, p .1 .0 .1, p .1 .0 .2), (take-standing _ _ _ (p .1 .1 .0 .0) (p .1 .1 .0 .1) (p .1 .1 .1 .0) _ (c .before .before .before .before .before .before .before .read-cell .ensures), (goal-inside _ _ _ (p .1 .1 .0 .0) (p .1 .1 .0 .1) (p .1 .1 .1 .0) _ (c .before .before .before .before .before .before .before .read-cell .ensures), (take-room _ _ _ (p .1 .1 .0 .0) (p .1 .1 .0 .1) (p .1 .1 .1 .0) _ (c .before .before .before .before .before .before .before .read-cell .ensures) (p .0) (omega (arith, c .before .before .before .before .before .before .before .before .before .if1 .left)), (_, p .1 .1 .1 .1))))))
+take-atom-requires c κs = let p = c .before .before .before .before .before .before .before .before .before .before .before .before .before .pre in (p .0, ((p .1 .0 .0 .formed, p .1 .0 .1, p .1 .0 .2), (take-standing _ _ _ (p .1 .1 .0 .0) (p .1 .1 .0 .1) (p .1 .1 .1 .0) _ (c .before .before .before .before .before .before .before .read-cell .ensures), (goal-atom _ _ _ (p .1 .1 .0 .0) (p .1 .1 .0 .1) (p .1 .1 .1 .0) _ (c .before .before .before .before .before .before .before .read-cell .ensures) _ (c .before .before .before .before .before .before .field .ensures .0) (c .before .before .before .before .before .if2 .taken), (take-room _ _ _ (p .1 .1 .0 .0) (p .1 .1 .0 .1) (p .1 .1 .1 .0) _ (c .before .before .before .before .before .before .before .read-cell .ensures) (p .0) (omega (arith, c .before .before .before .before .before .before .before .before .before .if1 .left)), (_, p .1 .1 .1 .1))))))
 
 -- src/lib.rt
 same-length-2 : tie.Need-same-length-2

@@ -7,7 +7,7 @@ use Rattle.taking.proofs.take_atom.Reads as reads
 use Rattle.taking.proofs.take_atom.Lts as lts
 use Rattle.branch.proofs.seek_first.Reads as seek-first-reads
 use Rattle.taking.proofs.at_clause.Reads as at-clause-reads
-use Rattle.taking.proofs.to_back.Reads as to-back-reads
+use Rattle.steps.proofs.to_back.Reads as to-back-reads
 use Rattle.words.proofs.field.Reads as field-reads
 
 -- src/lib.rt:194:9
@@ -20,7 +20,7 @@ field-requires-2 c κs = search needs
 
 -- src/lib.rt:196:11
 seek-first-requires : tie.Need-seek-first-requires
-seek-first-requires c κs = let p = c .before .before .before .before .before .pre in let room = p .1 .1 .1 .1 .0 .1 in (p .0, (p .1 .0, (p .1 .1 .0, ((room .6, omega (arith, room .3), c .before .before .field .ensures .1, c .before .field2 .ensures .1), p .1 .1 .1 .1 .1))))
+seek-first-requires c κs = let p = c .before .before .before .before .before .pre in let room = p .1 .1 .1 .1 .0 .1 in (p .0, (p .1 .0 .1, record { formed = p .1 .0 .0; indexed = p .1 .0 .2; standing = p .1 .1 .0; size = room .6; few = omega (arith, room .3); symbol = c .before .before .field .ensures .1; count = rw (c .before .field2 .ensures .0) (p .0 .small _ (p .1 .1 .1 .0)); memo = p .1 .1 .1 .1 .1 }))
 
 -- src/lib.rt:197:23
 enum-known-q : tie.Need-enum-known-q

@@ -13,7 +13,7 @@ seek-put-requires : tie.Need-seek-put-requires
 seek-put-requires c κs = let p = c .before .before .before .pre in (p .0, (p .1 .0, p .1 .1 .1))
 
 remember-requires : tie.Need-remember-requires
-remember-requires c κs = let p = c .before .before .before .before .before .pre in let S = p .1 .0 in let x = put-at (p .1 .1 .0) (S .standing .1) in (S .size, omega (arith, x .below, S .few), p .1 .1 .1, S .symbol, S .count, c .before .seek-put .ensures .0)
+remember-requires c κs = let p = c .before .before .before .before .before .pre in let S = p .1 .0 in let x = put-at (p .1 .1 .0) (S .standing .1) in (S .size, omega (arith, x .below, S .few), p .1 .1 .1, S .symbol, omega (arith, S .count), c .before .seek-put .ensures .0)
 
 same-length : tie.Need-same-length
 same-length c = search needs

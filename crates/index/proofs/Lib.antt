@@ -3,7 +3,3 @@ pub mod SuchLaws
 pub mod BucketLaws
 pub mod ListLaws
 pub mod IndexLaws
-pub mod NoteLaws
-pub mod NoteWords
-pub mod SupposedLaws
-pub mod SearchLaws

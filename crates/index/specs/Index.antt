@@ -1,7 +1,7 @@
--- An index of a run of clauses by head symbol and argument count, in buckets. For a supposed run (Supposed): for each bucket its first clause, and for each clause the next one of its bucket.
+-- An index of a run of clauses by head symbol and argument count, in buckets. For a supposed run (`supposed`): for each bucket its first clause, and for each clause the next one of its bucket.
 -- Here, that of the question's own run of at most 1,024 clauses, in 1,024 buckets: each bucket has a list of its different heads, each head standing there with its last clause.
 -- Word 4096 + b is 1048576 * record + number: the first clause in bucket b's list, and its record; the length n of the run alone, if there is none.
--- The eight bits from bit 11 on are the marks of the supposed clauses (Supposed).
+-- The eight bits from bit 11 on are the marks of the supposed clauses (`supposed`).
 -- Word 5120 + i is 4194304 * link + 2048 * start + same: `same` is the next clause with clause i's very head. If it is n, clause i is the last with its head and stands in its bucket's list:
 -- `start` is the first clause with its head, and `link` the next clause in the list, i itself if there is none. If it is not n, the word is `same` alone.
 use mathlib.Core.Path.{_≡_}

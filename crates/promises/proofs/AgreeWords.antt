@@ -15,12 +15,14 @@ use Rattle.branch.proofs.kept.Reads as branch-kept-reads
 use Rattle.branch.proofs.go_back.Reads as branch-go-back-reads
 use Rattle.branch.proofs.keep.Reads as branch-keep-reads
 use Rattle.branch.proofs.put_cell.Reads as branch-put-cell-reads
-use Rattle.index.proofs.index_supposed.Reads as index-index-supposed-reads
-use Rattle.index.proofs.first_of.Reads as index-first-of-reads
-use Rattle.index.proofs.next_of.Reads as index-next-of-reads
-use Rattle.index.proofs.is_supposed.Reads as index-is-supposed-reads
+use Rattle.supposed.proofs.index_supposed.Reads as supposed-index-supposed-reads
+use Rattle.supposed.proofs.first_of.Reads as supposed-first-of-reads
+use Rattle.supposed.proofs.next_of.Reads as supposed-next-of-reads
+use Rattle.supposed.proofs.is_supposed.Reads as supposed-is-supposed-reads
 use Rattle.steps.proofs.to_back.Reads as steps-to-back-reads
 use Rattle.following.proofs.follow.Reads as following-follow-reads
+use Rattle.index.proofs.head_matches.Reads as index-head-matches-reads
+use Rattle.index.proofs.head_bucket.Reads as index-head-bucket-reads
 use Rattle.index.proofs.clause_at.Reads as index-clause-at-reads
 use Rattle.index.proofs.first_match.Reads as index-first-match-reads
 use Rattle.index.proofs.match_after.Reads as index-match-after-reads
@@ -62,17 +64,23 @@ branch-put-cell κs a r r′ s s′ p q = p ∙ sym q
 pub steps-to-back : (κs : _) (a : _) (r r′ : _) (s s′ : _) → steps-to-back-reads.Post κs a r s → steps-to-back-reads.Post κs a r′ s′ → r ≡ r′
 steps-to-back κs a r r′ s s′ p q = p ∙ sym q
 
-pub index-index-supposed : (κs : _) (a : _) (r r′ : _) (s s′ : _) → index-index-supposed-reads.Post κs a r s → index-index-supposed-reads.Post κs a r′ s′ → s .1 .0 .now ≡ s′ .1 .0 .now
-index-index-supposed κs a r r′ s s′ p q = p ∙ sym q
+pub supposed-index-supposed : (κs : _) (a : _) (r r′ : _) (s s′ : _) → supposed-index-supposed-reads.Post κs a r s → supposed-index-supposed-reads.Post κs a r′ s′ → s .1 .0 .now ≡ s′ .1 .0 .now
+supposed-index-supposed κs a r r′ s s′ p q = p ∙ sym q
 
-pub index-first-of : (κs : _) (a : _) (r r′ : _) (s s′ : _) → index-first-of-reads.Post κs a r s → index-first-of-reads.Post κs a r′ s′ → r ≡ r′
-index-first-of κs a r r′ s s′ p q = p .0 ∙ sym (q .0)
+pub supposed-first-of : (κs : _) (a : _) (r r′ : _) (s s′ : _) → supposed-first-of-reads.Post κs a r s → supposed-first-of-reads.Post κs a r′ s′ → r ≡ r′
+supposed-first-of κs a r r′ s s′ p q = p .0 ∙ sym (q .0)
 
-pub index-next-of : (κs : _) (a : _) (r r′ : _) (s s′ : _) → index-next-of-reads.Post κs a r s → index-next-of-reads.Post κs a r′ s′ → r ≡ r′
-index-next-of κs a r r′ s s′ p q = p .0 ∙ sym (q .0)
+pub supposed-next-of : (κs : _) (a : _) (r r′ : _) (s s′ : _) → supposed-next-of-reads.Post κs a r s → supposed-next-of-reads.Post κs a r′ s′ → r ≡ r′
+supposed-next-of κs a r r′ s s′ p q = p .0 ∙ sym (q .0)
 
-pub index-is-supposed : (κs : _) (a : _) (r r′ : _) (s s′ : _) → index-is-supposed-reads.Post κs a r s → index-is-supposed-reads.Post κs a r′ s′ → r ≡ r′
-index-is-supposed κs a r r′ s s′ p q = p ∙ sym q
+pub supposed-is-supposed : (κs : _) (a : _) (r r′ : _) (s s′ : _) → supposed-is-supposed-reads.Post κs a r s → supposed-is-supposed-reads.Post κs a r′ s′ → r ≡ r′
+supposed-is-supposed κs a r r′ s s′ p q = p ∙ sym q
+
+pub index-head-matches : (κs : _) (a : _) (r r′ : _) (s s′ : _) → index-head-matches-reads.Post κs a r s → index-head-matches-reads.Post κs a r′ s′ → r ≡ r′
+index-head-matches κs a r r′ s s′ p q = p ∙ sym q
+
+pub index-head-bucket : (κs : _) (a : _) (r r′ : _) (s s′ : _) → index-head-bucket-reads.Post κs a r s → index-head-bucket-reads.Post κs a r′ s′ → r ≡ r′
+index-head-bucket κs a r r′ s s′ p q = p .0 ∙ sym (q .0)
 
 pub index-first-match : (κs : _) (a : _) (r r′ : _) (s s′ : _) → index-first-match-reads.Post κs a r s → index-first-match-reads.Post κs a r′ s′ → r ≡ r′
 index-first-match κs a r r′ s s′ p q = p ∙ sym q

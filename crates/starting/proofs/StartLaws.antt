@@ -23,8 +23,8 @@ use Rattle.words.proofs.StackLaws.{keeps-narrow}
 use Rattle.index.specs.Runs.{ClauseRun}
 use Rattle.index.specs.Index.{IndexedFrom}
 use Rattle.index.proofs.IndexLaws.{made-all}
-use Rattle.index.specs.Supposed.{supposedWords}
-use Rattle.index.proofs.SupposedLaws.{supposed-all, supposed-length, supposed-own, supposed-keeps}
+use Rattle.supposed.specs.Supposed.{supposedWords}
+use Rattle.supposed.proofs.SupposedLaws.{supposed-all, supposed-length, supposed-own, supposed-keeps}
 use Rattle.branch.proofs.SeekChain.{all-same}
 use Rattle.branch.specs.Seeking.{AllIndexed}
 use Rattle.branch.specs.Memo.{Memo}

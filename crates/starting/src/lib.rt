@@ -58,7 +58,7 @@ pub fn whole_run(
     ensures { λ x. ⌜ After (now (book .entry)) (now (ws .entry)) (now (out .entry)) wanted budget tally (x .ending) (x .tally) (now (ws .exit)) (now (out .exit)) ⌝ }
 {
     index_own(book, ws);
-    index::index_supposed(book, ws);
+    supposed::index_supposed(book, ws);
     let r = set_up(book, ws);
     running::run(book, ws, out, r, r.made, wanted, budget, tally)
 }

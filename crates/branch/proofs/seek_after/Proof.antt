@@ -8,7 +8,7 @@ use Rattle.branch.proofs.seek_after.Lts as lts
 use Rattle.words.proofs.StackLaws.{keeps-narrow}
 use Rattle.branch.proofs.SeekChain.{own-matches, own-sought, candidate-put, put-at, record-is, word-large, goal-ready, found-here, none-found, put-matches, put-as, all-same}
 use Rattle.branch.proofs.MemoLaws.{stays-none}
-use Rattle.index.proofs.next_of.Reads as next-of-reads
+use Rattle.supposed.proofs.next_of.Reads as next-of-reads
 use Rattle.branch.proofs.own_after.Reads as own-after-reads
 use Rattle.branch.proofs.seek_before.Reads as seek-before-reads
 use Rattle.branch.proofs.found.Reads as found-reads

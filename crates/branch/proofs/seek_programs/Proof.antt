@@ -7,7 +7,7 @@ use Rattle.branch.proofs.seek_programs.Statement.{statement}
 use Rattle.branch.proofs.seek_programs.Tie as tie
 use Rattle.branch.proofs.seek_programs.Reads as reads
 use Rattle.branch.proofs.seek_programs.Lts as lts
-use Rattle.index.proofs.is_supposed.Reads as is-supposed-reads
+use Rattle.supposed.proofs.is_supposed.Reads as is-supposed-reads
 use Rattle.branch.proofs.known.Reads as known-reads
 use Rattle.branch.proofs.seek_anew.Reads as seek-anew-reads
 

@@ -1,14 +1,14 @@
 use mathlib.Core.Path.{_≡_, refl, sym, _∙_, ap}
 use borrow.Author.Needs.{needs}
 use Rattle.words.proofs.FromAccepted.{readable}
-use Rattle.index.proofs.SupposedLaws.{supposed-length}
+use Rattle.supposed.proofs.SupposedLaws.{supposed-length}
 use Rattle.starting.specs.Start.{Ready}
 use Rattle.starting.proofs.StartLaws.{run-ready}
 use Rattle.starting.proofs.whole_run.Statement.{statement}
 use Rattle.starting.proofs.whole_run.Tie as tie
 use Rattle.starting.proofs.whole_run.Reads as reads
 use Rattle.starting.proofs.whole_run.Lts as lts
-use Rattle.index.proofs.index_supposed.Reads as index-supposed-reads
+use Rattle.supposed.proofs.index_supposed.Reads as index-supposed-reads
 use Rattle.running.proofs.run.Reads as run-reads
 use Rattle.starting.proofs.index_own.Reads as index-own-reads
 use Rattle.starting.proofs.set_up.Reads as set-up-reads

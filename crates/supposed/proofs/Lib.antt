@@ -1,0 +1,4 @@
+pub mod NoteLaws
+pub mod NoteWords
+pub mod SupposedLaws
+pub mod SearchLaws

@@ -6,8 +6,8 @@ use native.Mathlib.Omega.{arith}
 use lib.ListN.{length, getD}
 use Rattle.words.specs.Frame.{clearWords}
 use Rattle.words.proofs.ClearLaws.{clear-length, clear-zero}
-use Rattle.branch.specs.Memo.{forgetWords}
-use Rattle.branch.proofs.MemoLaws.{forget-only, forget-zero}
+use Rattle.seeking.specs.Memo.{forgetWords}
+use Rattle.seeking.proofs.MemoLaws.{forget-only, forget-zero}
 use Rattle.engine.specs.Opened.{Opened}
 
 pub opened : (ws ws₁ ws₂ : List ℕ) → length ws ≡ 16384 → ws₁ ≡ clearWords 0 64 ws → ws₂ ≡ forgetWords 2048 ws₁ → Opened ws₂

@@ -16,7 +16,7 @@ fn open_words(ws: &mut [u32])
     ensures { λ r. ⌜ Opened (now (ws .exit)) ⌝ }
 {
     words::clear_words(ws, 0, 64);
-    branch::forget(ws, 2048);
+    seeking::forget(ws, 2048);
 }
 
 // A call that is not refused, on any words.

@@ -18,9 +18,9 @@ use Rattle.book.proofs.Pointers.{clause-body}
 use Rattle.machine.specs.Machine.{Force, candidates, added}
 use Rattle.index.specs.Runs.{headMatches, nextMatch, ClauseRun}
 use Rattle.index.specs.Index.{Indexed}
-use Rattle.branch.specs.State.{ownRun}
-use Rattle.branch.specs.Seeking.{OwnReady, AllIndexed}
-use Rattle.branch.proofs.SeekLaws.{forceAt, FoundAt, found-run}
+use Rattle.branch.specs.State.{OwnReady, ownRun}
+use Rattle.seeking.specs.Seeking.{AllIndexed}
+use Rattle.seeking.proofs.SeekLaws.{forceAt, FoundAt, found-run}
 use Rattle.following.specs.declared.Followed.{Followed}
 use Rattle.following.specs.Plain.{plainClause, firstOwn, nextOwn, onlyOwn, plainBody, followOn, PlainClause, ownProgram, Plain, Chain, Chain.chain-none, Chain.chain-more}
 

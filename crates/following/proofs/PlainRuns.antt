@@ -24,7 +24,7 @@ use Rattle.machine.specs.Run.{Request, counted}
 use Rattle.branch.specs.State.{ownRun, restOf, GoalHere}
 use Rattle.branch.proofs.FromScoped.{own-ready}
 use Rattle.branch.proofs.TakeLaws.{goal-unit}
-use Rattle.branch.proofs.SeekChain.{rest-begins}
+use Rattle.seeking.proofs.SeekChain.{rest-begins}
 use Rattle.branch.proofs.ClauseLaws.{ClauseHere, own-clause}
 use Rattle.steps.specs.Search.{runOn, spentUnits}
 use Rattle.steps.proofs.RunLaws.{none-spent, unit-on}

@@ -7,8 +7,8 @@ ghost use Rattle.book.specs.Records.{field as bookField, records};
 ghost use Rattle.book.specs.Kinds.{kindAt, clauseKind};
 ghost use Rattle.book.proofs.Accepted.{Formed};
 ghost use Rattle.words.specs.Readable.{Readable};
-ghost use Rattle.branch.specs.State.{ownRun};
-ghost use Rattle.branch.specs.Seeking.{OwnReady, AllIndexed};
+ghost use Rattle.branch.specs.State.{OwnReady, ownRun};
+ghost use Rattle.seeking.specs.Seeking.{AllIndexed};
 ghost use Rattle.following.specs.Plain.{plainClause, plainBody, followOn};
 
 // Where plain rules lead: the goal, and how many were entered on the way.

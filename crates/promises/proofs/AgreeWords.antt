@@ -9,7 +9,7 @@ use lib.ListN.{getD}
 use Rattle.words.specs.Words.{termW}
 use Rattle.index.specs.Index.{IndexedFrom}
 use Rattle.branch.proofs.open_again.Reads as branch-open-again-reads
-use Rattle.branch.proofs.forget.Reads as branch-forget-reads
+use Rattle.seeking.proofs.forget.Reads as seeking-forget-reads
 use Rattle.branch.proofs.put_ties.Reads as branch-put-ties-reads
 use Rattle.branch.proofs.kept.Reads as branch-kept-reads
 use Rattle.branch.proofs.go_back.Reads as branch-go-back-reads
@@ -40,8 +40,8 @@ use Rattle.index.proofs.make_index.Reads as index-make-index-reads
 pub branch-open-again : (κs : _) (a : _) (r r′ : _) (s s′ : _) → branch-open-again-reads.Post κs a r s → branch-open-again-reads.Post κs a r′ s′ → s .0 .now ≡ s′ .0 .now
 branch-open-again κs a r r′ s s′ p q = p ∙ sym q
 
-pub branch-forget : (κs : _) (a : _) (r r′ : _) (s s′ : _) → branch-forget-reads.Post κs a r s → branch-forget-reads.Post κs a r′ s′ → s .0 .now ≡ s′ .0 .now
-branch-forget κs a r r′ s s′ p q = p ∙ sym q
+pub seeking-forget : (κs : _) (a : _) (r r′ : _) (s s′ : _) → seeking-forget-reads.Post κs a r s → seeking-forget-reads.Post κs a r′ s′ → s .0 .now ≡ s′ .0 .now
+seeking-forget κs a r r′ s s′ p q = p ∙ sym q
 
 pub words-clear-words : (κs : _) (a : _) (r r′ : _) (s s′ : _) → words-clear-words-reads.Post κs a r s → words-clear-words-reads.Post κs a r′ s′ → s .0 .now ≡ s′ .0 .now
 words-clear-words κs a r r′ s s′ p q = p ∙ sym q

@@ -11,15 +11,15 @@ use Rattle.machine.specs.declared.Tally.{Tally}
 use Rattle.machine.specs.Machine.{Thread, solving}
 use Rattle.words.specs.Frame.{undo}
 use Rattle.words.proofs.StackLaws.{keeps-narrow}
-use Rattle.branch.proofs.SeekChain.{all-same}
-use Rattle.branch.specs.Seeking.{OwnReady, AllIndexed}
-use Rattle.branch.specs.Memo.{Memo}
-use Rattle.branch.proofs.MemoLaws.{memo-kept}
+use Rattle.seeking.proofs.SeekChain.{all-same}
+use Rattle.seeking.specs.Seeking.{AllIndexed}
+use Rattle.seeking.specs.Memo.{Memo}
+use Rattle.seeking.proofs.MemoLaws.{memo-kept}
 use Rattle.steps.proofs.RunLaws.{none-spent}
 use Rattle.steps.proofs.LeaveLaws.{leaves-between}
 use Rattle.words.proofs.FrameLaws.{undo-keeps}
 use Rattle.branch.specs.declared.Back.{Back}
-use Rattle.branch.specs.State.{ownRun, IsBranch}
+use Rattle.branch.specs.State.{OwnReady, ownRun, IsBranch}
 use Rattle.branch.specs.Alternatives.{backOf, BackReady}
 use Rattle.steps.specs.declared.Regs.{Regs}
 use Rattle.steps.specs.declared.Stepped.{Stepped}

@@ -22,7 +22,7 @@ use Rattle.branch.specs.declared.Back.{Back}
 use Rattle.index.specs.Runs.{headMatches}
 use Rattle.branch.proofs.StateLaws.{store-made}
 use Rattle.branch.proofs.ClauseLaws.{ClauseHere}
-use Rattle.branch.proofs.SeekLaws.{clause-candidate}
+use Rattle.seeking.proofs.SeekLaws.{clause-candidate}
 use Rattle.steps.specs.declared.Regs.{Regs}
 use Rattle.steps.specs.declared.Stepped.the-variants.{Finished}
 use Rattle.steps.specs.Enters.{EnterReady}

@@ -7,14 +7,14 @@ use Rattle.machine.specs.declared.Ending.{Ending}
 use Rattle.machine.specs.Machine.{Thread, Branch}
 use Rattle.words.specs.Frame.{Keeps}
 use Rattle.words.proofs.StackLaws.{keeps-narrow, store-same}
-use Rattle.branch.proofs.SeekChain.{all-same}
+use Rattle.seeking.proofs.SeekChain.{all-same}
 use Rattle.branch.specs.declared.Back.{Back}
-use Rattle.branch.specs.declared.Candidate.{Candidate}
-use Rattle.branch.specs.State.{ownRun}
-use Rattle.branch.specs.Seeking.{OwnReady, AllIndexed}
-use Rattle.branch.specs.Memo.{MemoOnly}
+use Rattle.seeking.specs.declared.Candidate.{Candidate}
+use Rattle.branch.specs.State.{OwnReady, ownRun}
+use Rattle.seeking.specs.Seeking.{AllIndexed}
+use Rattle.seeking.specs.Memo.{MemoOnly}
 use Rattle.branch.proofs.StateLaws.{sound-agree, branch-agree, waiting-agree, rest-agree}
-use Rattle.branch.proofs.MemoLaws.{keeps-back, rest-keeps, sought-keeps, memo-less, tops-only}
+use Rattle.seeking.proofs.MemoLaws.{keeps-back, rest-keeps, sought-keeps, memo-less, tops-only}
 use Rattle.steps.specs.declared.Stepped.{Stepped}
 use Rattle.steps.specs.declared.Stepped.the-variants.{Onward, Finished}
 use Rattle.steps.specs.Search.{MemoStepped}

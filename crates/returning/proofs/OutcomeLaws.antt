@@ -4,7 +4,7 @@ use mathlib.Core.Bool.{true, false}
 use Prim.Native.Nat.{ℕ, _+_}
 use Rattle.machine.specs.declared.Limit.{Limit}
 use Rattle.machine.specs.declared.Ending.the-variants.{Stopped as StoppedEnding}
-use Rattle.unifier.specs.declared.How.the-variants.{Done, Failed, Stopped}
+use Rattle.looks.specs.declared.How.the-variants.{Done, Failed, Stopped}
 use Rattle.unifier.specs.declared.Unified.{Unified}
 use Rattle.branch.specs.declared.Back.{Back}
 use Rattle.steps.specs.declared.Stepped.the-variants.{Onward, Finished}

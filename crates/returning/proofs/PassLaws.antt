@@ -23,12 +23,12 @@ use Rattle.words.specs.Good.{Good, GoodTerm, Slots, ReadThrough}
 use Rattle.words.proofs.ReadLaws.{in-book, link-in}
 use Rattle.words.proofs.SlotLaws.{good-term}
 use Rattle.branch.specs.declared.Back.{Back}
-use Rattle.branch.specs.declared.Candidate.{Candidate}
-use Rattle.branch.specs.declared.Candidate.the-variants.{At, Nothing}
+use Rattle.seeking.specs.declared.Candidate.{Candidate}
+use Rattle.seeking.specs.declared.Candidate.the-variants.{At, Nothing}
 use Rattle.branch.specs.State.{IsRest}
-use Rattle.branch.specs.Seeking.{Sought, Sought.sought, Sought.no-more}
-use Rattle.branch.specs.Memo.{Memo, MemoStays}
-use Rattle.branch.proofs.MemoLaws.{memo-less, stays-none, stays-trans}
+use Rattle.seeking.specs.Seeking.{Sought, Sought.sought, Sought.no-more}
+use Rattle.seeking.specs.Memo.{Memo, MemoStays}
+use Rattle.seeking.proofs.MemoLaws.{memo-less, stays-none, stays-trans}
 use Rattle.steps.specs.declared.Regs.{Regs}
 use Rattle.steps.specs.declared.Stepped.{Stepped}
 use Rattle.steps.specs.declared.Stepped.the-variants.{Onward, Finished}

@@ -14,7 +14,7 @@ use Rattle.words.specs.Readable.{Readable}
 use Rattle.words.proofs.PackLaws.{rec-pack, base-pack, pack-large}
 use Rattle.index.proofs.RunLaws.{suppose-run}
 use Rattle.branch.specs.State.{ownRun, IsClause}
-use Rattle.branch.proofs.SeekChain.{PutAt, put-at, own-at}
+use Rattle.seeking.proofs.SeekChain.{PutAt, put-at, own-at}
 use Rattle.branch.proofs.FromScoped.{own-ready}
 use Rattle.branch.proofs.ClauseLaws.{ClauseHere, put-clause, own-clause}
 use Rattle.returning.specs.Reentry.{placeOf}

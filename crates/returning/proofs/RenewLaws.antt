@@ -15,11 +15,11 @@ use Rattle.words.proofs.PackLaws.{rec-pack, base-pack, pack-large}
 use Rattle.words.proofs.StackLaws.{keeps-refl}
 use Rattle.words.proofs.FrameLaws.{fits-most}
 use Rattle.branch.specs.declared.Back.{Back}
-use Rattle.branch.specs.declared.Candidate.{Candidate}
-use Rattle.branch.specs.declared.Candidate.the-variants.{At, Nothing}
+use Rattle.seeking.specs.declared.Candidate.{Candidate}
+use Rattle.seeking.specs.declared.Candidate.the-variants.{At, Nothing}
 use Rattle.branch.specs.State.{IsRest, IsRest.own-rest, IsRest.put-rest, IsClause, IsGoals, IsGoals.no-goals, IsGoals.goal-cell, Sound, Alternative.other-clause, Agree}
 use Rattle.branch.specs.Alternatives.{keepWords}
-use Rattle.branch.specs.Seeking.{IsCandidate, Sought, Sought.sought, Sought.no-more}
+use Rattle.seeking.specs.Seeking.{IsCandidate, Sought, Sought.sought, Sought.no-more}
 use Rattle.branch.proofs.StateLaws.{rest-agree, waiting-push}
 use Rattle.branch.proofs.KeepLaws.{kept-0, kept-1, kept-2, kept-3, kept-4, kept-outside, keep-agree, flag-small}
 use Rattle.branch.proofs.FromScoped.{rest-number}

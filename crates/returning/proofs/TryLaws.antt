@@ -17,15 +17,15 @@ use Rattle.words.specs.Words.{storeOf}
 use Rattle.words.specs.Readable.{Readable}
 use Rattle.words.specs.Frame.{Keeps}
 use Rattle.words.proofs.StackLaws.{keeps-trans, keeps-narrow, store-same}
-use Rattle.unifier.specs.declared.How.{How}
-use Rattle.unifier.specs.declared.How.the-variants.{Done, Failed, Stopped}
+use Rattle.looks.specs.declared.How.{How}
+use Rattle.looks.specs.declared.How.the-variants.{Done, Failed, Stopped}
 use Rattle.unifier.specs.declared.Unified.{Unified}
-use Rattle.unifier.specs.Moves.{Went, Went.done, Went.fails, Went.full, Went.spent}
+use Rattle.looks.specs.Moves.{Went, Went.done, Went.fails, Went.full, Went.spent}
 use Rattle.branch.specs.declared.Back.{Back}
 use Rattle.branch.specs.State.{Tops, IsBranch, Sound, Waiting, Agree, flag}
 use Rattle.branch.proofs.StateLaws.{goals-agree}
-use Rattle.branch.specs.Memo.{Memo}
-use Rattle.branch.proofs.MemoLaws.{memo-kept}
+use Rattle.seeking.specs.Memo.{Memo}
+use Rattle.seeking.proofs.MemoLaws.{memo-kept}
 use Rattle.steps.specs.declared.Regs.{Regs}
 use Rattle.steps.specs.declared.Stepped.the-variants.{Onward, Finished}
 use Rattle.steps.specs.Enters.{EnterReady, Enters}

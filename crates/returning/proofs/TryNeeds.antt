@@ -17,7 +17,7 @@ use Rattle.steps.specs.declared.Regs.{Regs}
 use Rattle.steps.specs.declared.Stepped.{Stepped}
 use Rattle.steps.specs.declared.Stepped.the-variants.{Finished}
 use Rattle.steps.specs.Enters.{EnterReady, Enters}
-use Rattle.branch.specs.Memo.{Memo}
+use Rattle.seeking.specs.Memo.{Memo}
 use Rattle.steps.specs.Search.{StepGives, MemoStepped}
 use Rattle.returning.specs.declared.InForce.{InForce}
 use Rattle.returning.specs.declared.Front.{Front}

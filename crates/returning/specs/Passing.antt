@@ -13,10 +13,10 @@ use Rattle.machine.specs.Run.{Request}
 use Rattle.words.specs.Words.{wordFor, symW, recOf}
 use Rattle.words.specs.Good.{ReadThrough}
 use Rattle.branch.specs.declared.Back.{Back}
-use Rattle.branch.specs.declared.Candidate.{Candidate}
-use Rattle.branch.specs.declared.Candidate.the-variants.{At, Nothing}
+use Rattle.seeking.specs.declared.Candidate.{Candidate}
+use Rattle.seeking.specs.declared.Candidate.the-variants.{At, Nothing}
 use Rattle.branch.specs.State.{IsRest}
-use Rattle.branch.specs.Seeking.{Sought}
+use Rattle.seeking.specs.Seeking.{Sought}
 use Rattle.steps.specs.Search.{runOn, spentUnits}
 use Rattle.steps.specs.declared.Regs.{Regs}
 use Rattle.steps.specs.declared.Stepped.{Stepped}

@@ -3,8 +3,8 @@ use mathlib.Core.List.{List}
 use Prim.Native.Nat.{ℕ, _+_, _-_, _*_, _≤_, _<_}
 use Rattle.machine.specs.Machine.{Thread}
 use Rattle.branch.specs.declared.Back.{Back}
-use Rattle.branch.specs.Seeking.{AllIndexed}
-use Rattle.branch.specs.Memo.{Memo}
+use Rattle.seeking.specs.Seeking.{AllIndexed}
+use Rattle.seeking.specs.Memo.{Memo}
 use Rattle.machine.specs.declared.Ending.{Ending}
 use Rattle.steps.specs.declared.Regs.{Regs}
 use Rattle.steps.specs.declared.Stepped.{Stepped}

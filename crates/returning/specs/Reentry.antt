@@ -10,8 +10,8 @@ use Rattle.machine.specs.Machine.{Thread, candidates, tryAll}
 use Rattle.machine.specs.declared.Ending.the-variants.{Stopped as StoppedEnding}
 use Rattle.words.specs.Words.{termWord, recOf, baseOf}
 use Rattle.words.specs.Frame.{Keeps}
-use Rattle.unifier.specs.declared.How.{How}
-use Rattle.unifier.specs.declared.How.the-variants.{Done, Failed, Stopped}
+use Rattle.looks.specs.declared.How.{How}
+use Rattle.looks.specs.declared.How.the-variants.{Done, Failed, Stopped}
 use Rattle.unifier.specs.declared.Unified.{Unified}
 use Rattle.branch.specs.declared.Back.{Back}
 use Rattle.branch.specs.State.{Waiting, putCell}

@@ -9,20 +9,20 @@ ghost use Rattle.book.proofs.Accepted.{Accepted};
 ghost use Rattle.machine.specs.Machine.{Thread};
 ghost use Rattle.words.specs.Readable.{Readable};
 ghost use Rattle.words.specs.Words.{recOf};
-ghost use Rattle.branch.specs.Seeking.{AllIndexed};
-ghost use Rattle.branch.specs.Memo.{Memo, MemoStays};
+ghost use Rattle.seeking.specs.Seeking.{AllIndexed};
+ghost use Rattle.seeking.specs.Memo.{Memo, MemoStays};
 ghost use Rattle.steps.specs.Search.{Stands, unitsOf, MemoStepped};
 ghost use Rattle.returning.specs.Returns.{Leads, ToClause};
 ghost use Rattle.returning.specs.Reentry.{placeOf, moved, Renewed, bodyWords, frontOf, regsAgain, outcomeOf, Tries};
 ghost use Rattle.returning.specs.Reaching.{ReachContract, CanGoOn, GoesOn, MemoReached};
 ghost use Rattle.returning.specs.Passing.{firstArgument, FirstIs, Clashes, NextIs, PassGives, regsGone, laterBy};
 use branch::Back;
-use branch::Candidate;
+use looks::How;
 use machine::Ending;
 use machine::Limit;
+use seeking::Candidate;
 use steps::Regs;
 use steps::Stepped;
-use unifier::How;
 use unifier::Unified;
 
 // A clause in force: its record, and where the variables of its suppose goal's holder begin.
@@ -232,7 +232,7 @@ fn after_next(book: &[u8], ws: &mut [u32], k: u32, x: Back) -> Candidate
     let a = x.atom / 4096 - 1;
     let f = words::field(book, a, 1);
     let m = words::field(book, a, 2);
-    branch::seek_after(book, x.made, ws, x.programs, x.node, x.index, f, m)
+    seeking::seek_after(book, x.made, ws, x.programs, x.node, x.index, f, m)
 }
 
 // Passes over the candidates that clash at once with the atom: each is entered and fails at its first pair, two units.

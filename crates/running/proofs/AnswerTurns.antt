@@ -19,7 +19,7 @@ use Rattle.machine.specs.Call.{filledBuffer}
 use Rattle.words.specs.Words.{storeOf}
 use Rattle.words.specs.Frame.{Keeps}
 use Rattle.branch.proofs.StateLaws.{sound-agree, waiting-agree}
-use Rattle.branch.proofs.MemoLaws.{memo-kept}
+use Rattle.seeking.proofs.MemoLaws.{memo-kept}
 use Rattle.steps.specs.declared.Regs.{Regs}
 use Rattle.steps.specs.Search.{runOut, runOn, topsOf, backRegs, phase, Stands, Stands.going-back}
 use Rattle.steps.proofs.RunLaws.{at-thread}
@@ -30,7 +30,7 @@ use Rattle.answers.proofs.CallerLaws.{Given, Given.given, Given.stopped, gives}
 use Rattle.running.specs.declared.Turned.{Turned}
 use Rattle.running.specs.declared.Turned.the-variants.{On, Over}
 use Rattle.words.proofs.StackLaws.{keeps-narrow}
-use Rattle.branch.proofs.SeekChain.{all-same}
+use Rattle.seeking.proofs.SeekChain.{all-same}
 use Rattle.branch.specs.State.{ownRun}
 use Rattle.branch.proofs.FromScoped.{own-ready}
 use Rattle.running.specs.Turns.{Taken, requestOf, Midway, ahead, TurnGives, TurnGives.turns-on, TurnGives.turns-over, oneMore}

@@ -19,8 +19,8 @@ use Rattle.words.proofs.FromAccepted.{readable}
 use Rattle.words.proofs.FrameLaws.{fits-most}
 use Rattle.words.proofs.StackLaws.{keeps-narrow}
 use Rattle.branch.specs.State.{Tops, IsGoals, IsGoals.no-goals, IsGoals.goal-cell, IsBranch, Sound, Waiting, Agree}
-use Rattle.branch.specs.Memo.{forgetWords, MemoOnly}
-use Rattle.branch.proofs.MemoLaws.{forget-only, forget-zero, memo-forgotten}
+use Rattle.seeking.specs.Memo.{forgetWords, MemoOnly}
+use Rattle.seeking.proofs.MemoLaws.{forget-only, forget-zero, memo-forgotten}
 use Rattle.branch.proofs.FromScoped.{own-ready}
 use Rattle.returning.proofs.MemoFrames.{indexed-only}
 use Rattle.taking.proofs.MemoFrames.{stands-only}

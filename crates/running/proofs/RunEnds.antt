@@ -14,8 +14,8 @@ use Rattle.machine.specs.Run.{Result, goOn, start, solved}
 use Rattle.machine.specs.Call.{noCounts, filledBuffer, runOf}
 use Rattle.steps.specs.declared.Regs.{Regs}
 use Rattle.steps.specs.Search.{runOut, runOn, Stands}
-use Rattle.branch.specs.Seeking.{AllIndexed}
-use Rattle.branch.specs.Memo.{Memo}
+use Rattle.seeking.specs.Seeking.{AllIndexed}
+use Rattle.seeking.specs.Memo.{Memo}
 use Rattle.running.specs.declared.Turned.{Turned}
 use Rattle.running.specs.declared.Turned.the-variants.{On, Over}
 use Rattle.running.specs.Turns.{Taken, requestOf, Midway, ahead, TurnGives, TurnGives.turns-on, TurnGives.turns-over}

@@ -22,7 +22,7 @@ use Rattle.steps.specs.Search.{runOn, spentUnits, unitsOf, StepGives, StepGives
 use Rattle.steps.proofs.RunLaws.{none-spent, units-most, unit-none}
 use Rattle.running.specs.declared.Turned.{Turned}
 use Rattle.running.specs.declared.Turned.the-variants.{Over}
-use Rattle.branch.proofs.SeekChain.{all-same}
+use Rattle.seeking.proofs.SeekChain.{all-same}
 use Rattle.branch.specs.State.{ownRun}
 use Rattle.branch.proofs.FromScoped.{own-ready}
 use Rattle.running.specs.Turns.{answerDue, Taken, requestOf, Midway, TurnGives, TurnGives.turns-on, TurnGives.turns-over, turnBy}

@@ -17,8 +17,8 @@ use Rattle.steps.specs.declared.Regs.{Regs}
 use Rattle.steps.specs.declared.Stepped.{Stepped}
 use Rattle.steps.specs.declared.Stepped.the-variants.{Onward, Finished}
 use Rattle.steps.specs.Search.{runOn, spentUnits, Stands, phase}
-use Rattle.branch.specs.Seeking.{AllIndexed}
-use Rattle.branch.specs.Memo.{Memo}
+use Rattle.seeking.specs.Seeking.{AllIndexed}
+use Rattle.seeking.specs.Memo.{Memo}
 use Rattle.running.specs.declared.Turned.{Turned}
 use Rattle.running.specs.declared.Turned.the-variants.{On, Over}
 

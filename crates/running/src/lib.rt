@@ -8,8 +8,8 @@ ghost use Rattle.book.specs.Decode.{questionOf};
 ghost use Rattle.machine.specs.Run.{Result, start as startOf};
 ghost use Rattle.machine.specs.Call.{noCounts, runOf, filledBuffer};
 ghost use Rattle.steps.specs.Search.{Stands, spentUnits, unitsOf};
-ghost use Rattle.branch.specs.Seeking.{AllIndexed};
-ghost use Rattle.branch.specs.Memo.{Memo};
+ghost use Rattle.seeking.specs.Seeking.{AllIndexed};
+ghost use Rattle.seeking.specs.Memo.{Memo};
 ghost use Rattle.book.proofs.Accepted.{Accepted};
 ghost use Rattle.machine.specs.Machine.{Thread};
 ghost use Rattle.returning.specs.Reaching.{ReachContract, MemoReached};
@@ -95,7 +95,7 @@ fn answer(
     ensures { λ o. ⌜ ((whole : Result) → Midway (now (book .entry)) unknowns wanted (length (now (out .entry))) budget (now (ws .entry)) (now (out .entry)) r y end whole
         → TurnGives (now (book .entry)) unknowns wanted (length (now (out .entry))) budget (now (ws .exit)) (now (out .exit)) r y whole o) ⌝ }
 {
-    branch::forget(ws, r.made);
+    seeking::forget(ws, r.made);
     let k = y.answers as u16;
     match answers::write_answer(book, r.made, ws, out, end, k, unknowns) {
         Answered::Cut(m) => Turned::Over(Ending::Stopped(m), y),

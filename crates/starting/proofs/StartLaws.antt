@@ -25,11 +25,11 @@ use Rattle.index.specs.Index.{IndexedFrom}
 use Rattle.index.proofs.IndexLaws.{made-all}
 use Rattle.supposed.specs.Supposed.{supposedWords}
 use Rattle.supposed.proofs.SupposedLaws.{supposed-all, supposed-length, supposed-own, supposed-keeps}
-use Rattle.branch.proofs.SeekChain.{all-same}
-use Rattle.branch.specs.Seeking.{AllIndexed}
-use Rattle.branch.specs.Memo.{Memo}
+use Rattle.seeking.proofs.SeekChain.{all-same}
+use Rattle.seeking.specs.Seeking.{AllIndexed}
+use Rattle.seeking.specs.Memo.{Memo}
 use Rattle.branch.proofs.FromScoped.{own-ready}
-use Rattle.branch.proofs.MemoLaws.{memo-none}
+use Rattle.seeking.proofs.MemoLaws.{memo-none}
 use Rattle.words.specs.Words.{termWord, entryW, storeOf}
 use Rattle.words.specs.Good.{Slots}
 use Rattle.words.specs.Frame.{Keeps}

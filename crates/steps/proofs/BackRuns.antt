@@ -13,9 +13,9 @@ use Rattle.machine.specs.Machine.{Thread, solving, entering, Branch, Force, set
 use Rattle.machine.specs.Answers.{Line}
 use Rattle.machine.specs.Run.{Request, counted}
 use Rattle.words.specs.Words.{storeOf}
-use Rattle.unifier.specs.declared.How.the-variants.{Done, Failed, Stopped}
+use Rattle.looks.specs.declared.How.the-variants.{Done, Failed, Stopped}
 use Rattle.unifier.specs.declared.Unified.{Unified}
-use Rattle.unifier.specs.Moves.{Went, withStore}
+use Rattle.looks.specs.Moves.{Went, withStore}
 use Rattle.steps.specs.Enters.{argumentPairs, EnterReady, Enters}
 use Rattle.steps.specs.Search.{runOn, spentUnits}
 use Rattle.steps.proofs.RunLaws.{unit-on, went-run-done, went-run-failed, went-run-stopped}

@@ -11,10 +11,10 @@ use Rattle.words.specs.Good.{Slots}
 use Rattle.words.specs.Frame.{clearWords, TrailFits}
 use Rattle.words.proofs.StackLaws.{keeps-narrow}
 use Rattle.unifier.specs.declared.Unified.{Unified}
-use Rattle.unifier.specs.Runs.{runTerms, GoodRun}
+use Rattle.looks.specs.Runs.{runTerms, GoodRun}
 use Rattle.unifier.specs.PairRuns.{pairRun}
 use Rattle.unifier.specs.Pairs.{Ends, atRuns}
-use Rattle.unifier.proofs.RunLaws.{arguments-run}
+use Rattle.looks.proofs.RunLaws.{arguments-run}
 use Rattle.branch.specs.Entries.{putTies, TieRun}
 use Rattle.words.proofs.ClearLaws.{clear-length}
 use Rattle.branch.proofs.EntryLaws.{entered, entered-below, entered-above, entered-store, entered-slots, entered-fits}

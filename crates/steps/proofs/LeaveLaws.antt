@@ -10,7 +10,7 @@ use Rattle.words.proofs.StackLaws.{keeps-refl, keeps-trans, keeps-narrow}
 use Rattle.branch.specs.declared.Back.{Back}
 use Rattle.branch.specs.Alternatives.{keepWords}
 use Rattle.branch.specs.State.{putCell}
-use Rattle.branch.specs.Memo.{MemoOnly}
+use Rattle.seeking.specs.Memo.{MemoOnly}
 use Rattle.branch.proofs.TakeLaws.{put-outside}
 use Rattle.branch.proofs.KeepLaws.{kept-outside}
 use Rattle.steps.specs.Search.{Leaves}

@@ -11,10 +11,10 @@ use Rattle.machine.specs.declared.Tally.{Tally}
 use Rattle.machine.specs.Machine.{Thread, on, stop, advance}
 use Rattle.machine.specs.Answers.{Line}
 use Rattle.machine.specs.Run.{Request, State, Outgoing, next, ended, counted, goOn, after, step, run}
-use Rattle.unifier.specs.declared.How.{How}
-use Rattle.unifier.specs.declared.How.the-variants.{Done, Failed, Stopped}
-use Rattle.unifier.specs.Moves.{Moves, Went, Went.done, Went.fails, Went.full, Went.spent}
-use Rattle.unifier.proofs.MoveLaws.{run-moves, unitsMore}
+use Rattle.looks.specs.declared.How.{How}
+use Rattle.looks.specs.declared.How.the-variants.{Done, Failed, Stopped}
+use Rattle.looks.specs.Moves.{Moves, Went, Went.done, Went.fails, Went.full, Went.spent}
+use Rattle.looks.proofs.MoveLaws.{run-moves, unitsMore}
 use Rattle.steps.specs.declared.Regs.{Regs}
 use Rattle.steps.specs.declared.Stepped.{Stepped}
 use Rattle.steps.specs.Search.{runOut, runOn, spentUnits, unitsOf, StepGives, StepGives.steps-on, StepGives.steps-end}

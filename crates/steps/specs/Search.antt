@@ -13,7 +13,7 @@ use Rattle.machine.specs.Answers.{Line}
 use Rattle.machine.specs.Run.{Request, State, Outgoing, next, ended, goOn, Result, run}
 use Rattle.words.specs.Frame.{Keeps}
 use Rattle.branch.specs.State.{Tops, IsBranch, Sound, Waiting}
-use Rattle.branch.specs.Memo.{Memo}
+use Rattle.seeking.specs.Memo.{Memo}
 use Rattle.steps.specs.declared.Regs.{Regs}
 use Rattle.steps.specs.declared.Stepped.{Stepped}
 use Rattle.steps.specs.declared.Stepped.the-variants.{Onward, Finished}

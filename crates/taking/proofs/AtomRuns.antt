@@ -7,11 +7,11 @@ use Rattle.book.specs.Records.{field}
 use Rattle.book.specs.Kinds.{kindAt, atomKind}
 use Rattle.book.proofs.Accepted.{Formed}
 use Rattle.machine.specs.Machine.{Thread, solving, entering, Branch, Force, candidates, tryAll, took}
-use Rattle.branch.specs.declared.Candidate.{Candidate}
-use Rattle.branch.specs.declared.Candidate.the-variants.{At, Nothing}
+use Rattle.seeking.specs.declared.Candidate.{Candidate}
+use Rattle.seeking.specs.declared.Candidate.the-variants.{At, Nothing}
 use Rattle.branch.specs.declared.Back.{Back}
 use Rattle.branch.specs.State.{IsClause, IsProgram}
-use Rattle.branch.specs.Seeking.{Sought, Sought.sought, Sought.no-more}
+use Rattle.seeking.specs.Seeking.{Sought, Sought.sought, Sought.no-more}
 use Rattle.branch.proofs.KeepLaws.{atom-unit, atom-branch}
 use Rattle.branch.proofs.TakeLaws.{CellAt}
 use Rattle.steps.specs.declared.Regs.{Regs}

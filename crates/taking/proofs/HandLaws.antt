@@ -19,7 +19,7 @@ use Rattle.words.proofs.FrameLaws.{fits-most}
 use Rattle.branch.specs.declared.Back.{Back}
 use Rattle.branch.specs.State.{restOf, runOfSuppose, Tops, GoalHere, IsRest.put-rest, IsProgram, IsBranch, Sound, Alternative.other-goal, Waiting, Agree, putCell, flag}
 use Rattle.branch.specs.Alternatives.{keepWords}
-use Rattle.branch.specs.Memo.{markOf}
+use Rattle.seeking.specs.Memo.{markOf}
 use Rattle.branch.proofs.StateLaws.{rest-agree, rest-more, goals-more, goals-push, branch-agree, sound-agree, waiting-agree, waiting-raised, waiting-push}
 use Rattle.branch.proofs.TakeLaws.{cell-agree, cell-word}
 use Rattle.branch.proofs.KeepLaws.{keep-agree, kept-0, kept-1, kept-2, kept-3}

@@ -10,15 +10,15 @@ use Rattle.machine.specs.declared.Ending.{Ending}
 use Rattle.machine.specs.Machine.{Thread}
 use Rattle.words.specs.Words.{termWord}
 use Rattle.branch.specs.declared.Back.{Back}
-use Rattle.branch.specs.declared.Candidate.{Candidate}
-use Rattle.branch.specs.declared.Candidate.the-variants.{At, Nothing}
+use Rattle.seeking.specs.declared.Candidate.{Candidate}
+use Rattle.seeking.specs.declared.Candidate.the-variants.{At, Nothing}
 use Rattle.branch.specs.State.{putCell}
 use Rattle.branch.specs.Alternatives.{keepWords}
-use Rattle.branch.specs.Memo.{Memo, MemoOnly, MemoStays}
+use Rattle.seeking.specs.Memo.{Memo, MemoOnly, MemoStays}
 use Rattle.branch.proofs.StateLaws.{branch-agree, sound-agree, waiting-agree}
 use Rattle.branch.proofs.TakeLaws.{put-outside}
 use Rattle.branch.proofs.KeepLaws.{kept-outside}
-use Rattle.branch.proofs.MemoLaws.{memo-kept, memo-less, memo-put, tops-only}
+use Rattle.seeking.proofs.MemoLaws.{memo-kept, memo-less, memo-put, tops-only}
 use Rattle.following.specs.declared.Followed.{Followed}
 use Rattle.steps.specs.declared.Regs.{Regs}
 use Rattle.steps.specs.declared.Stepped.{Stepped}

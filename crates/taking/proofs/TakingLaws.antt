@@ -18,8 +18,8 @@ use Rattle.words.specs.Readable.{Readable, HasArguments}
 use Rattle.steps.proofs.ReadyLaws.{has-atom}
 use Rattle.words.proofs.PackLaws.{rec-pack, base-pack, pack-large}
 use Rattle.words.proofs.ReadLaws.{in-book}
-use Rattle.branch.specs.Seeking.{Standing}
-use Rattle.branch.specs.Memo.{MemoOnly}
+use Rattle.seeking.specs.Seeking.{Standing}
+use Rattle.seeking.specs.Memo.{MemoOnly}
 use Rattle.branch.proofs.TakeLaws.{CellAt, cell-at}
 use Rattle.following.specs.declared.Followed.{Followed}
 use Rattle.steps.specs.declared.Regs.{Regs}

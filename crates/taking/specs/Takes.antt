@@ -8,10 +8,10 @@ use Rattle.book.specs.Records.{field, records}
 use Rattle.machine.specs.Machine.{Force}
 use Rattle.words.specs.Words.{termWord}
 use Rattle.branch.specs.declared.Back.{Back}
-use Rattle.branch.specs.declared.Candidate.{Candidate}
-use Rattle.branch.specs.declared.Candidate.the-variants.{At, Nothing}
+use Rattle.seeking.specs.declared.Candidate.{Candidate}
+use Rattle.seeking.specs.declared.Candidate.the-variants.{At, Nothing}
 use Rattle.branch.specs.State.{IsProgram, putCell, flag}
-use Rattle.branch.specs.Seeking.{Sought}
+use Rattle.seeking.specs.Seeking.{Sought}
 use Rattle.branch.specs.Alternatives.{keepWords}
 use Rattle.following.specs.declared.Followed.{Followed}
 use Rattle.following.specs.Plain.{Chain}

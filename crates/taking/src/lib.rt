@@ -6,20 +6,20 @@ ghost use lib.ListN.{length, getD};
 ghost use Rattle.words.specs.Readable.{Readable, HasArguments};
 ghost use Rattle.book.specs.Records.{records};
 ghost use Rattle.book.proofs.Accepted.{Accepted, Formed};
-ghost use Rattle.branch.specs.State.{flag};
-ghost use Rattle.branch.specs.Seeking.{OwnReady, AllIndexed, Standing};
-ghost use Rattle.branch.specs.Memo.{Memo, MemoStays};
+ghost use Rattle.branch.specs.State.{OwnReady, flag};
+ghost use Rattle.seeking.specs.Seeking.{AllIndexed, Standing};
+ghost use Rattle.seeking.specs.Memo.{Memo, MemoStays};
 ghost use Rattle.machine.specs.Machine.{Thread};
 ghost use mathlib.Core.List.{List};
 ghost use Rattle.steps.specs.Search.{Stands};
 ghost use Rattle.returning.specs.Reaching.{ReachContract, MemoReached};
 ghost use Rattle.taking.specs.Takes.{cellOf, Room, inHand, andWords, andRegs, orWords, orRegs, putProgram, supposeWords, supposeRegs, atomKept, AtomTaken, PlainAhead, plainWords, plainRegs};
 use branch::Back;
-use branch::Candidate;
 use following::Followed;
 use machine::Ending;
 use machine::Limit;
 use returning::Reached;
+use seeking::Candidate;
 use steps::Regs;
 
 // A goal cell: the word of the goal and base in it, the goal's record and base, its program, and the next cell.
@@ -235,7 +235,7 @@ fn take_atom(book: &[u8], ws: &mut [u32], r: Regs, x: Cell) -> Reached
 {
     let f = words::field(book, x.goal, 1);
     let m = words::field(book, x.goal, 2);
-    match branch::seek_first(book, r.made, ws, r.programs, x.program, f, m) {
+    match seeking::seek_first(book, r.made, ws, r.programs, x.program, f, m) {
         Candidate::At(q, i) => Reached::Clause(1, at_clause(r, x, q, i), r.alternatives),
         Candidate::Nothing => Reached::Onward(1, steps::to_back(r)),
     }

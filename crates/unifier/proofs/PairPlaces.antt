@@ -10,9 +10,9 @@ use Rattle.words.specs.Readable.{Readable}
 use Rattle.words.proofs.StackLaws.{keeps-refl}
 use Rattle.unifier.specs.declared.ToPair.{ToPair}
 use Rattle.unifier.specs.declared.PairStep.the-variants.{Into, Past, TooMany}
-use Rattle.unifier.specs.Runs.{runWord, firstOf, countOf, GoodRun, TermAt}
+use Rattle.looks.specs.Runs.{runWord, firstOf, countOf, GoodRun, TermAt}
 use Rattle.unifier.specs.PairRuns.{pairWords, waitingPairs, pairListOf, pastPairs, GoodTwo, Paired, PairPast, PairedInto, PairedInto.paired, PairedInto.alike, PairedInto.overfull}
-use Rattle.unifier.proofs.RunLaws.{first-run, count-run, base-run, run-rest, run-empty, term-run}
+use Rattle.looks.proofs.RunLaws.{first-run, count-run, base-run, run-rest, run-empty, term-run}
 use Rattle.unifier.proofs.PairRunLaws.{both-none, words-length, twos-most, twos-last, two-keeps, twos-push, twos-good, past-length, pairs-none, paired-start}
 
 -- symbol and argument count of two records, each two as one number

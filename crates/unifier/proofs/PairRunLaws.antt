@@ -14,7 +14,7 @@ use Rattle.words.specs.Words.{baseOf, termOf}
 use Rattle.words.specs.Frame.{Keeps}
 use Rattle.words.proofs.StackLaws.{run-count, pair-count, keeps-trans, keeps-set}
 use Rattle.unifier.specs.declared.ToPair.{ToPair}
-use Rattle.unifier.specs.Runs.{firstOf, countOf, runTerms, GoodRun}
+use Rattle.looks.specs.Runs.{firstOf, countOf, runTerms, GoodRun}
 use Rattle.unifier.specs.PairRuns.{pairRun, pairWords, waitingPairs, pairListOf, pastPairs, GoodTwo, Paired}
 
 -- TWO RUNS

@@ -10,7 +10,7 @@ use Rattle.words.specs.Frame.{Keeps}
 use Rattle.unifier.specs.declared.ToPair.{ToPair}
 use Rattle.unifier.specs.declared.PairStep.{PairStep}
 use Rattle.unifier.specs.declared.PairStep.the-variants.{Into, Past, Apart, TooMany}
-use Rattle.unifier.specs.Runs.{firstOf, countOf, runTerms, GoodRun}
+use Rattle.looks.specs.Runs.{firstOf, countOf, runTerms, GoodRun}
 
 -- the pairs of two runs of m links, at the front of a list
 unfoldable pub pairRun : List ℕ → ℕ → ℕ → ℕ → ℕ → ℕ → List Pair → List Pair

@@ -4,7 +4,7 @@ use Rattle.engine.proofs.open_words.Statement.{statement}
 use Rattle.engine.proofs.open_words.Tie as tie
 use Rattle.engine.proofs.open_words.Reads as reads
 use Rattle.engine.proofs.open_words.Lts as lts
-use Rattle.branch.proofs.forget.Reads as forget-reads
+use Rattle.seeking.proofs.forget.Reads as forget-reads
 use Rattle.words.proofs.clear_words.Reads as clear-words-reads
 
 clear-words-requires : tie.Need-clear-words-requires

@@ -8,7 +8,7 @@ use Rattle.returning.proofs.after_next.Statement.{statement}
 use Rattle.returning.proofs.after_next.Tie as tie
 use Rattle.returning.proofs.after_next.Reads as reads
 use Rattle.returning.proofs.after_next.Lts as lts
-use Rattle.branch.proofs.seek_after.Reads as seek-after-reads
+use Rattle.seeking.proofs.seek_after.Reads as seek-after-reads
 use Rattle.words.proofs.field.Reads as field-reads
 
 -- src/lib.rt:229:13

@@ -5,7 +5,7 @@ use Rattle.running.proofs.answer.Statement.{statement}
 use Rattle.running.proofs.answer.Tie as tie
 use Rattle.running.proofs.answer.Reads as reads
 use Rattle.running.proofs.answer.Lts as lts
-use Rattle.branch.proofs.forget.Reads as forget-reads
+use Rattle.seeking.proofs.forget.Reads as forget-reads
 use Rattle.answers.proofs.write_answer.Reads as write-answer-reads
 use Rattle.running.proofs.count_answer.Reads as count-answer-reads
 use Rattle.steps.proofs.to_back.Reads as to-back-reads

@@ -5,7 +5,7 @@ use Rattle.taking.proofs.take_atom.Statement.{statement}
 use Rattle.taking.proofs.take_atom.Tie as tie
 use Rattle.taking.proofs.take_atom.Reads as reads
 use Rattle.taking.proofs.take_atom.Lts as lts
-use Rattle.branch.proofs.seek_first.Reads as seek-first-reads
+use Rattle.seeking.proofs.seek_first.Reads as seek-first-reads
 use Rattle.taking.proofs.at_clause.Reads as at-clause-reads
 use Rattle.steps.proofs.to_back.Reads as to-back-reads
 use Rattle.words.proofs.field.Reads as field-reads

@@ -1,0 +1,4 @@
+-- Laws of the search for candidates.
+pub mod SeekLaws
+pub mod SeekChain
+pub mod MemoLaws

@@ -24,12 +24,12 @@ use Rattle.machine.specs.Run.{Request, counted}
 use Rattle.branch.specs.State.{ownRun, restOf, GoalHere}
 use Rattle.branch.proofs.FromScoped.{own-ready}
 use Rattle.branch.proofs.TakeLaws.{goal-unit}
-use Rattle.seeking.proofs.SeekChain.{rest-begins}
 use Rattle.branch.proofs.ClauseLaws.{ClauseHere, own-clause}
 use Rattle.steps.specs.Search.{runOn, spentUnits}
 use Rattle.steps.proofs.RunLaws.{none-spent, unit-on}
 use Rattle.following.specs.Plain.{PlainClause, ownProgram, Plain, Chain, Chain.chain-none, Chain.chain-more}
 use Rattle.following.proofs.PlainLaws.{body-in}
+use Rattle.seeking.proofs.SeekLaws.{rest-begins}
 
 -- no variables: nothing is made
 no-entries : (ties : List Tie) (o : ℕ) → newEntries ties o 0 ≡ []

@@ -3,3 +3,4 @@ pub mod SuchLaws
 pub mod BucketLaws
 pub mod ListLaws
 pub mod IndexLaws
+pub mod HeadLaws

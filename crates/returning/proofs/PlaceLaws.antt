@@ -14,10 +14,11 @@ use Rattle.words.specs.Readable.{Readable}
 use Rattle.words.proofs.PackLaws.{rec-pack, base-pack, pack-large}
 use Rattle.index.proofs.RunLaws.{suppose-run}
 use Rattle.branch.specs.State.{ownRun, IsClause}
-use Rattle.seeking.proofs.SeekChain.{PutAt, put-at, own-at}
+use Rattle.seeking.proofs.SeekOwn.{own-at}
 use Rattle.branch.proofs.FromScoped.{own-ready}
 use Rattle.branch.proofs.ClauseLaws.{ClauseHere, put-clause, own-clause}
 use Rattle.returning.specs.Reentry.{placeOf}
+use Rattle.seeking.proofs.SeekChain.{PutAt, put-at}
 
 module _ (book : List ℕ) (R : Readable book) (A : Accepted book) (ws : List ℕ) (made top q i : ℕ) (f : Force) (after : List Force) (C : IsClause book ws made top q i f after) where
   -- THE QUESTION'S OWN RUN

@@ -1,36 +1,33 @@
--- The search along the programs: what it finds in the question's own run and in the programs that were put, and what the words say of it.
+-- The search along the programs: what it finds in the programs that were put, and what the words say of it.
 use mathlib.Core.Path.{_≡_, refl, sym, _∙_, ap}
-use mathlib.Core.Logic.{_⊎_, inl, inr}
 use mathlib.Core.Bool.{Bool, true, false}
-use mathlib.Core.List.{List, [], _∷_}
-use Prim.Native.Nat.{ℕ, suc, _+_, _-_, _*_, _/_, _%_, _≤_, _<_}
+use mathlib.Core.List.{List, _∷_}
+use Prim.Native.Nat.{ℕ, suc, _+_, _-_, _*_, _≤_, _<_, _/_, _%_}
 use native.Mathlib.Omega.{arith}
-use native.Mathlib.Decide.{decLt}
-use borrow.Author.Tests.{lt-ltb, le-ltb}
-use lib.ListN.{length, getD}
-use Rattle.book.specs.Records.{field, records, lastRecord}
+use lib.ListN.{getD}
+use Rattle.book.specs.Records.{field, records}
 use Rattle.book.specs.Kinds.{kindAt, supposeKind}
 use Rattle.book.proofs.Accepted.{Formed}
 use Rattle.book.proofs.Pointers.{suppose-clauses}
 use Rattle.machine.specs.Machine.{Force, candidates}
 use Rattle.words.specs.Words.{termWord, recOf}
 use Rattle.words.specs.Readable.{Readable}
+use Rattle.seeking.specs.declared.Candidate.the-variants.{At}
+use Rattle.branch.specs.State.{OwnReady, Run, restOf, runOfSuppose, GoalHere, IsRest, IsRest.own-rest, IsRest.put-rest}
+use Rattle.index.specs.Runs.{headMatches, nextMatch, foundAmong}
+use Rattle.index.specs.Index.{headBucket}
+use Rattle.seeking.specs.Seeking.{AllIndexed, ownCandidate, IsCandidate, Sought, Sought.sought, Sought.no-more, PutMatches, Standing, SoughtPut, SoughtPut.put-here, SoughtPut.put-nowhere}
+use Rattle.seeking.proofs.SeekLaws.{forceAt, ClauseKinds, one-candidate, none-here, some-here, rest-begins}
 use Rattle.words.proofs.PackLaws.{rec-pack, pack-large}
 use Rattle.seeking.specs.declared.Candidate.{Candidate}
-use Rattle.seeking.specs.declared.Candidate.the-variants.{At, Nothing}
-use Rattle.branch.specs.State.{OwnReady, Run, restOf, runOfSuppose, ownRun, GoalHere, IsRest, IsRest.own-rest, IsRest.put-rest}
-use Rattle.index.specs.Runs.{headMatches, nextMatch, foundAmong, ClauseRun}
-use Rattle.index.specs.Index.{headBucket, Indexed}
 use Rattle.supposed.specs.Supposed.{marked, SupposedIndexed}
 use Rattle.index.proofs.RunLaws.{suppose-run, found-some, found-none}
 use Rattle.supposed.proofs.SearchLaws.{not-marked}
 use Rattle.index.proofs.IndexLaws.{indexed-same}
-use Rattle.supposed.proofs.SupposedLaws.{supposed-same}
+use Rattle.supposed.proofs.SupposedKeeps.{supposed-same}
 use Rattle.words.specs.Frame.{Keeps}
 use Rattle.words.proofs.StackLaws.{keeps-narrow}
-use Rattle.seeking.specs.Seeking.{AllIndexed, OwnMatches, PutMatches, candidateAt, ownCandidate, Standing, IsCandidate}
-use Rattle.seeking.specs.Seeking.{Sought, Sought.sought, Sought.no-more, SoughtPut, SoughtPut.put-here, SoughtPut.put-nowhere}
-use Rattle.seeking.proofs.SeekLaws.{forceAt, ClauseKinds, FoundAt, added-more, one-candidate, found-run}
+use Rattle.seeking.proofs.SeekOwn.{own-sought, no-cons}
 
 -- a program that was put before another one
 pub record PutAt (book ws : List ℕ) (made top q k : ℕ) (rest : List Force) : Type 0 where
@@ -55,152 +52,11 @@ put-at h (own-rest e m u) = absurd (omega arith)
 put-at h (put-rest {q = prev} {s = s} {b = b} {program = program} a c d e f g i j m r) = record
     { s = s; b = b; prev = prev; program = program; some = a; below = c; word = d; link = e; falls = f; kind = g; here = i; base = j; most = m; before = r; is = refl }
 
-pub own-at : {book ws : List ℕ} {made top q k : ℕ} {rest : List Force} → q ≡ 0 → IsRest book ws made top q k rest
-    → (rest ≡ restOf book (ownRun book) k []) × (k ≤ ownRun book .count) × (field book (lastRecord book) 4 ≤ made)
-own-at h (own-rest e m u) = (refl, m, u)
-own-at h (put-rest a c d e f g i j m r) = absurd (omega arith)
-
 -- the run of a suppose goal is one of clauses
 suppose-kinds : (book : List ℕ) (F : Formed book) (s : ℕ) → s < records book → kindAt book s ≡ supposeKind → (f m b j n : ℕ) (program : List Force) → j + n ≤ field book s 2
     → ClauseKinds book F f m (field book s 1) b program j n
 suppose-kinds book F s h k f m b j n program l i a c =
     let z = suppose-clauses book F s h k (field book s 1 + i) (omega arith) (omega arith) in (omega (arith, z .0), z .1)
-
--- a candidate found in the run of some program
-module _ (book : List ℕ) (F : Formed book) (f m : ℕ) (x : Run) (program : List Force) (k : ℕ) (l : k ≤ x .count)
-    (K : ClauseKinds book F f m (x .first) (x .base) program k (x .count - k)) where
-  abbrev at-run : ℕ
-  at-run = nextMatch book f m (x .first) k (x .count - k)
-
-  run-is : FoundAt book F f m (x .first) (x .base) program k (x .count - k) at-run
-  run-is = found-run book F f m (x .first) (x .base) program k (x .count - k) K
-
-  none-here : x .count ≤ at-run → candidates f m (restOf book x k program) ≡ candidates f m program
-  none-here h = go run-is
-    where
-      go : FoundAt book F f m (x .first) (x .base) program k (x .count - k) at-run → candidates f m (restOf book x k program) ≡ candidates f m program
-      go (inl y) = y .1
-      go (inr y) = absurd (omega (arith, y .1))
-
-  -- the rest from the candidate on begins with it
-  pub rest-begins : (j : ℕ) → j < x .count → restOf book x j program ≡ forceAt book (x .first) (x .base) j ∷ restOf book x (suc j) program
-  rest-begins j h =
-      let z : x .count - j ≡ suc (x .count - suc j) = omega arith in
-      rw z (added-more book F f m (x .first) (x .base) program j (x .count - suc j))
-
-  some-here : at-run < x .count
-      → (candidates f m (forceAt book (x .first) (x .base) at-run ∷ restOf book x (suc at-run) program)
-      ≡ forceAt book (x .first) (x .base) at-run ∷ candidates f m (restOf book x (suc at-run) program))
-      × (candidates f m (restOf book x k program) ≡ forceAt book (x .first) (x .base) at-run ∷ candidates f m (restOf book x (suc at-run) program))
-  some-here h = go run-is
-    where
-      go : FoundAt book F f m (x .first) (x .base) program k (x .count - k) at-run
-          → (candidates f m (forceAt book (x .first) (x .base) at-run ∷ restOf book x (suc at-run) program)
-          ≡ forceAt book (x .first) (x .base) at-run ∷ candidates f m (restOf book x (suc at-run) program))
-          × (candidates f m (restOf book x k program) ≡ forceAt book (x .first) (x .base) at-run ∷ candidates f m (restOf book x (suc at-run) program))
-      go (inl y) = absurd (omega (arith, y .0))
-      go (inr y) =
-          let z : k + (x .count - k) ≡ x .count = omega arith in
-          let c = K at-run (y .0) (y .1) in (
-            one-candidate book F f m (x .first) (x .base) program at-run (restOf book x (suc at-run) program) (c .0) (c .1) ∙ rw (y .2) refl,
-            rw z at (y .3),
-          )
-
--- THE QUESTION'S OWN RUN
-module _ (book : List ℕ) (f m k : ℕ) (last first n j : ℕ) (le : last ≡ lastRecord book) (fe : first ≡ field book last 1) (ne : n ≡ field book last 2)
-    (je : j ≡ nextMatch book f m first k (n - k)) where
-  own-found : j ≡ nextMatch book f m (ownRun book .first) k (ownRun book .count - k)
-  own-found = je ∙ rw (fe, ne, le) refl
-
-  pub own-yes : j < n → At 0 j ≡ ownCandidate book f m k
-  unfolding ownCandidate candidateAt
-  own-yes h =
-      let c : ownRun book .count ≡ n = rw (ne, le) refl in
-      rw (ownCandidate, ← own-found, c, lt-ltb j n h) refl
-
-  pub own-no : n ≤ j → Nothing ≡ ownCandidate book f m k
-  unfolding ownCandidate candidateAt
-  own-no h =
-      let c : ownRun book .count ≡ n = rw (ne, le) refl in
-      rw (ownCandidate, ← own-found, c, le-ltb j n h) refl
-
-module _ (book : List ℕ) (R : Readable book) (k : ℕ) (O : OwnReady book k) (last first n : ℕ) (le : last ≡ lastRecord book) where
-  pub last-in : last < records book
-  unfolding lastRecord
-  last-in = omega (arith, O .some)
-
-  pub own-run-ready : (ws : List ℕ) → length ws ≡ 16384 → AllIndexed book ws → first ≡ field book last 1 → n ≡ field book last 2
-      → ClauseRun book first n × (((first < 4096) × (n ≤ 1024) × (length ws ≡ 16384)) × Indexed book first n ws)
-  own-run-ready ws l I fe ne = rw (fe, ne, le) (O .run, ((O .first-small, O .count-small, l), I .own))
-
-  pub own-match-here : (f m i : ℕ) → OwnMatches book f m i → first ≡ field book last 1 → n ≡ field book last 2 → (i < n) × (headMatches book f m (field book (first + i) 1) ≡ true)
-  own-match-here f m i M fe ne = rw (fe, ne, le) (M .below, M .matches)
-
-pub from-first : (book : List ℕ) (f m first n j : ℕ) → j ≡ nextMatch book f m first 0 n → j ≡ nextMatch book f m first 0 (n - 0)
-from-first book f m first n j e = let z : n - 0 ≡ n = omega arith in rw z e
-
-no-candidates : (f m : ℕ) → candidates f m [] ≡ []
-unfolding candidates
-no-candidates f m = refl
-
-decide : (i n : ℕ) → (i < n) ⊎ (n ≤ i)
-decide i n = by (decLt i n)
-  where
-    by : Dec (i < n) → (i < n) ⊎ (n ≤ i)
-    by (yes h) = inl h
-    by (no h) = inr (omega arith)
-
--- what the search in the own run says of the rest
-pub own-sought : (book : List ℕ) (F : Formed book) (ws : List ℕ) (made top f m q k : ℕ) (rest : List Force) → OwnReady book 0 → q ≡ 0
-    → IsRest book ws made top q k rest → Sought book ws made top f m rest (ownCandidate book f m k)
-unfolding ownCandidate candidateAt
-own-sought book F ws made top f m q k rest O e r =
-    let a = own-at e r in
-    let x = ownRun book in
-    let K : ClauseKinds book F f m (x .first) (x .base) [] k (x .count - k) = λ i l u. (O .run i (omega (arith, a .1)) .1, O .kinds i (omega (arith, a .1))) in
-    rw (a .0) (go k (a .1) (a .2) K (decide (nextMatch book f m (x .first) k (x .count - k)) (x .count)))
-  where
-    go : (k : ℕ) → k ≤ ownRun book .count → field book (lastRecord book) 4 ≤ made → ClauseKinds book F f m (ownRun book .first) 0 [] k (ownRun book .count - k)
-        → (nextMatch book f m (ownRun book .first) k (ownRun book .count - k) < ownRun book .count) ⊎ (ownRun book .count ≤ nextMatch book f m (ownRun book .first) k (ownRun book .count - k))
-        → Sought book ws made top f m (restOf book (ownRun book) k []) (ownCandidate book f m k)
-    go k l u K (inl h) =
-        let y = some-here book F f m (ownRun book) [] k l K h in
-        let j = nextMatch book f m (ownRun book .first) k (ownRun book .count - k) in
-        let z = rest-begins book F f m (ownRun book) [] k l K j h in
-        rw (ownCandidate, lt-ltb j (ownRun book .count) h)
-        (sought {q = 0} {i = j} {c = forceAt book (ownRun book .first) 0 j} {after = restOf book (ownRun book) (suc j) []}
-        (rw (← z) (own-rest {p = 0} {i = j} refl (omega arith) u), own-rest {p = 0} {i = suc j} refl (omega arith) u) (y .0) (y .1))
-    go k l u K (inr h) =
-        rw (ownCandidate, le-ltb (nextMatch book f m (ownRun book .first) k (ownRun book .count - k)) (ownRun book .count) h)
-        (no-more (none-here book F f m (ownRun book) [] k l K h ∙ no-candidates f m))
-
--- a candidate of the own run matches
-no-cons : (x : Force) (l : List Force) → x ∷ l ≡ l → ⊥
-no-cons x l e = let z : suc (length l) ≡ length l = ap length e in omega arith
-
-module _ (book : List ℕ) (F : Formed book) (ws : List ℕ) (made top p i f m : ℕ) (O : OwnReady book 0) (e : p ≡ 0) (X : IsCandidate book ws made top p i f m) where
-  abbrev own : Run
-  own = ownRun book
-
-  i-below : i < own .count
-  i-below = omega (arith, own-at e (X .clause .1) .1)
-
-  own-begins : X .c ∷ X .after ≡ forceAt book (own .first) 0 i ∷ restOf book own (suc i) []
-  own-begins =
-      own-at e (X .clause .0) .0
-      ∙ rest-begins book F f m own [] i (omega (arith, i-below)) (λ j l u. (O .run j (omega (arith, i-below)) .1, O .kinds j (omega (arith, i-below)))) i i-below
-
-  pub own-matches : OwnMatches book f m i
-  own-matches = record { below = i-below; matches = go (headMatches book f m (field book (own .first + i) 1)) refl }
-    where
-      go : (t : Bool) → headMatches book f m (field book (own .first + i) 1) ≡ t → t ≡ true
-      go true h = refl
-      go false h =
-          let q = own-begins in
-          let b : X .after ≡ restOf book own (suc i) [] = cc in
-          let one = one-candidate book F f m (own .first) 0 [] i (restOf book own (suc i) []) (O .run i i-below .1) (O .kinds i i-below) in
-          let y : X .c ∷ candidates f m (X .after) ≡ candidates f m (X .after) = sym (X .first) ∙ ap (candidates f m) own-begins ∙ one ∙ rw (h, b) refl in
-          absurd (no-cons (X .c) (candidates f m (X .after)) y)
 
 -- A PROGRAM THAT WAS PUT
 module _ (book : List ℕ) (R : Readable book) (F : Formed book) (ws : List ℕ) (made top q k : ℕ) (rest : List Force) (X : PutAt book ws made top q k rest) where

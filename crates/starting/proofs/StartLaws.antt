@@ -24,7 +24,8 @@ use Rattle.index.specs.Runs.{ClauseRun}
 use Rattle.index.specs.Index.{IndexedFrom}
 use Rattle.index.proofs.IndexLaws.{made-all}
 use Rattle.supposed.specs.Supposed.{supposedWords}
-use Rattle.supposed.proofs.SupposedLaws.{supposed-all, supposed-length, supposed-own, supposed-keeps}
+use Rattle.supposed.proofs.SupposedLaws.{supposed-all}
+use Rattle.supposed.proofs.SupposedKeeps.{supposed-length, supposed-own, supposed-keeps}
 use Rattle.seeking.proofs.SeekChain.{all-same}
 use Rattle.seeking.specs.Seeking.{AllIndexed}
 use Rattle.seeking.specs.Memo.{Memo}

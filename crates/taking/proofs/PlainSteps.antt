@@ -12,7 +12,7 @@ use Rattle.machine.specs.Run.{Request}
 use Rattle.machine.specs.Machine.{Thread, Todo, Force, solving, Branch, todo}
 use Rattle.branch.specs.State.{IsProgram}
 use Rattle.branch.proofs.StateLaws.{store-made}
-use Rattle.seeking.proofs.SeekChain.{own-at}
+use Rattle.seeking.proofs.SeekOwn.{own-at}
 use Rattle.branch.proofs.TakeLaws.{CellAt}
 use Rattle.following.specs.declared.Followed.{Followed}
 use Rattle.following.specs.Plain.{ownProgram}

@@ -3,7 +3,7 @@ use mathlib.Core.Path.{_≡_, refl, sym, _∙_}
 use Prim.Native.Nat.{_-_, _≤_, _<_}
 use borrow.Author.Needs.{needs}
 use Rattle.book.specs.Records.{records, lastRecord}
-use Rattle.seeking.proofs.SeekChain.{last-in}
+use Rattle.seeking.proofs.SeekOwn.{last-in}
 use Rattle.following.specs.Plain.{followOn}
 use Rattle.following.proofs.PlainLaws.{loop-start, loop-end, loop-none, loop-one, loop-in}
 use Rattle.following.proofs.follow.Statement.{statement}

@@ -1,5 +1,5 @@
 use native.Mathlib.Omega.{arith}
-use Rattle.index.proofs.IndexLaws.{first-record}
+use Rattle.index.proofs.HeadLaws.{first-record}
 use borrow.Author.Needs.{needs}
 use Rattle.index.proofs.clause_at.Statement.{statement}
 use Rattle.index.proofs.clause_at.Tie as tie

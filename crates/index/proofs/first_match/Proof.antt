@@ -1,6 +1,6 @@
 use native.Mathlib.Omega.{arith}
 use borrow.Author.Needs.{needs}
-use Rattle.index.proofs.IndexLaws.{start-found, none-found}
+use Rattle.index.proofs.HeadLaws.{start-found, none-found}
 use Rattle.index.proofs.first_match.Statement.{statement}
 use Rattle.index.proofs.first_match.Tie as tie
 use Rattle.index.proofs.first_match.Reads as reads

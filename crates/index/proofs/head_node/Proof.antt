@@ -2,7 +2,7 @@ use native.Mathlib.Omega.{arith}
 use borrow.Author.Needs.{needs}
 use Prim.Native.Nat.{ℕ, _-_, _≤_}
 use Rattle.index.specs.Index.{Listed}
-use Rattle.index.proofs.IndexLaws.{OnList, list-begins, list-here-found, list-ends, list-goes-on, list-done}
+use Rattle.index.proofs.HeadLaws.{OnList, list-begins, list-here-found, list-ends, list-goes-on, list-done}
 use Rattle.index.proofs.head_node.Statement.{statement}
 use Rattle.index.proofs.head_node.Tie as tie
 use Rattle.index.proofs.head_node.Reads as reads

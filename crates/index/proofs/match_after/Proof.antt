@@ -1,5 +1,5 @@
 use borrow.Author.Needs.{needs}
-use Rattle.index.proofs.IndexLaws.{same-found}
+use Rattle.index.proofs.HeadLaws.{same-found}
 use Rattle.index.proofs.match_after.Statement.{statement}
 use Rattle.index.proofs.match_after.Tie as tie
 use Rattle.index.proofs.match_after.Reads as reads

@@ -1,7 +1,7 @@
 use native.Mathlib.Omega.{arith}
 use mathlib.Core.Path.{refl, sym, _∙_}
 use Rattle.book.specs.Records.{records, lastRecord}
-use Rattle.seeking.proofs.SeekChain.{last-in}
+use Rattle.seeking.proofs.SeekOwn.{last-in}
 use Rattle.branch.proofs.FromScoped.{own-ready}
 use Rattle.words.proofs.ReadLaws.{in-book}
 use Rattle.returning.proofs.PlaceLaws.{own-link, own-place, put-top, put-large, put-inside, put-link, put-place}

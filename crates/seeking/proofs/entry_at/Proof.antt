@@ -1,4 +1,4 @@
-use Rattle.seeking.proofs.MemoLaws.{entry-here}
+use Rattle.seeking.proofs.MemoEntries.{entry-here}
 use borrow.Author.Needs.{needs}
 use Rattle.seeking.proofs.entry_at.Statement.{statement}
 use Rattle.seeking.proofs.entry_at.Tie as tie

@@ -1,4 +1,4 @@
-use Rattle.seeking.proofs.MemoLaws.{rest-here}
+use Rattle.seeking.proofs.MemoEntries.{rest-here}
 use borrow.Author.Needs.{needs}
 use Rattle.seeking.proofs.head_rest.Statement.{statement}
 use Rattle.seeking.proofs.head_rest.Tie as tie

@@ -1,6 +1,6 @@
 use native.Mathlib.Omega.{arith}
 use mathlib.Core.Path.{refl}
-use Rattle.seeking.proofs.MemoLaws.{known-finds}
+use Rattle.seeking.proofs.MemoEntries.{known-finds}
 use borrow.Author.Needs.{needs}
 use Rattle.seeking.proofs.known.Statement.{statement}
 use Rattle.seeking.proofs.known.Tie as tie

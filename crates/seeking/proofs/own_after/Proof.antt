@@ -1,7 +1,7 @@
 use native.Mathlib.Omega.{arith}
 use mathlib.Core.Path.{refl, sym, _∙_}
 use Rattle.book.specs.Records.{records, lastRecord}
-use Rattle.seeking.proofs.SeekChain.{own-yes, own-no, last-in, own-run-ready, own-match-here}
+use Rattle.seeking.proofs.SeekOwn.{own-yes, own-no, last-in, own-run-ready, own-match-here}
 use borrow.Author.Needs.{needs}
 use Rattle.seeking.proofs.own_after.Statement.{statement}
 use Rattle.seeking.proofs.own_after.Tie as tie

@@ -1,6 +1,6 @@
 use native.Mathlib.Omega.{arith}
 use lib.ListN.{length-set}
-use Rattle.seeking.proofs.MemoLaws.{memo-words}
+use Rattle.seeking.proofs.MemoEntries.{memo-words}
 use borrow.Author.Needs.{needs}
 use Rattle.seeking.proofs.remember.Statement.{statement}
 use Rattle.seeking.proofs.remember.Tie as tie

@@ -6,7 +6,8 @@ use Rattle.seeking.proofs.seek_after.Tie as tie
 use Rattle.seeking.proofs.seek_after.Reads as reads
 use Rattle.seeking.proofs.seek_after.Lts as lts
 use Rattle.words.proofs.StackLaws.{keeps-narrow}
-use Rattle.seeking.proofs.SeekChain.{own-matches, own-sought, candidate-put, put-at, record-is, word-large, goal-ready, found-here, none-found, put-matches, put-as, all-same}
+use Rattle.seeking.proofs.SeekChain.{candidate-put, record-is, word-large, goal-ready, found-here, none-found, put-matches, put-as, all-same, put-at}
+use Rattle.seeking.proofs.SeekOwn.{own-matches, own-sought}
 use Rattle.seeking.proofs.MemoLaws.{stays-none}
 use Rattle.supposed.proofs.next_of.Reads as next-of-reads
 use Rattle.seeking.proofs.own_after.Reads as own-after-reads

@@ -1,13 +1,13 @@
 use native.Mathlib.Omega.{arith}
 use borrow.Author.Needs.{needs}
-use Rattle.seeking.proofs.SeekChain.{put-at}
-use Rattle.seeking.proofs.MemoLaws.{remembers-stay}
+use Rattle.seeking.proofs.MemoEntries.{remembers-stay}
 use Rattle.seeking.proofs.seek_anew.Statement.{statement}
 use Rattle.seeking.proofs.seek_anew.Tie as tie
 use Rattle.seeking.proofs.seek_anew.Reads as reads
 use Rattle.seeking.proofs.seek_anew.Lts as lts
 use Rattle.seeking.proofs.seek_put.Reads as seek-put-reads
 use Rattle.seeking.proofs.remember.Reads as remember-reads
+use Rattle.seeking.proofs.SeekChain.{put-at}
 
 seek-put-requires : tie.Need-seek-put-requires
 seek-put-requires c κs = let p = c .before .before .before .pre in (p .0, (p .1 .0, p .1 .1 .1))

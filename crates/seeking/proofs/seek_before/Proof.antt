@@ -1,6 +1,6 @@
 use native.Mathlib.Omega.{arith}
 use borrow.Author.Needs.{needs}
-use Rattle.seeking.proofs.SeekChain.{put-at, own-nowhere}
+use Rattle.seeking.proofs.SeekChain.{own-nowhere, put-at}
 use Rattle.seeking.proofs.MemoLaws.{stays-none}
 use Rattle.seeking.proofs.seek_before.Statement.{statement}
 use Rattle.seeking.proofs.seek_before.Tie as tie

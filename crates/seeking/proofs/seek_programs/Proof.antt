@@ -1,7 +1,7 @@
 use native.Mathlib.Omega.{arith}
 use borrow.Author.Needs.{needs}
 use mathlib.Core.Path.{refl, sym, _∙_}
-use Rattle.seeking.proofs.SeekChain.{put-at, own-nowhere, unmarked}
+use Rattle.seeking.proofs.SeekChain.{own-nowhere, unmarked, put-at}
 use Rattle.seeking.proofs.MemoLaws.{stays-none}
 use Rattle.seeking.proofs.seek_programs.Statement.{statement}
 use Rattle.seeking.proofs.seek_programs.Tie as tie

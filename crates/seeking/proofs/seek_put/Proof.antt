@@ -10,7 +10,7 @@ use Prim.Native.Nat.{ℕ, _+_, _-_, _*_}
 use Rattle.machine.specs.Machine.{Force, candidates}
 use Rattle.branch.specs.State.{IsRest}
 use Rattle.seeking.specs.Seeking.{Standing, SoughtPut.put-here, SoughtPut.put-nowhere}
-use Rattle.seeking.proofs.SeekChain.{put-at, word-large, goal-ready, first-here, first-none, sought-as, put-as}
+use Rattle.seeking.proofs.SeekChain.{word-large, goal-ready, first-here, first-none, sought-as, put-as, put-at}
 use Rattle.seeking.proofs.known.Reads as known-reads
 use Rattle.supposed.proofs.first_of.Reads as first-of-reads
 

@@ -1,6 +1,6 @@
 -- The six numbers of a reply, by the case of its outcome.
 use mathlib.Core.Path.{_≡_, refl}
-use mathlib.Core.List.{List, [], _∷_}
+use mathlib.Core.List.{[], _∷_}
 use Prim.Native.Nat.{ℕ}
 use Rattle.machine.specs.declared.Ending.{Ending}
 use Rattle.machine.specs.declared.Outcome.the-variants.{Declined, Ended}

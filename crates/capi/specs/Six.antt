@@ -1,7 +1,6 @@
 -- The six numbers of a reply for a caller in C.
 use mathlib.Core.List.{List, [], _∷_}
 use Prim.Native.Nat.{ℕ}
-use Rattle.machine.specs.declared.Outcome.{Outcome}
 use Rattle.machine.specs.declared.Outcome.the-variants.{Declined, Ended}
 use Rattle.machine.specs.declared.Reply.{Reply}
 use Rattle.machine.specs.Run.{endingNumber}

@@ -2,9 +2,9 @@
 use mathlib.Core.Path.{_≡_, refl, sym, _∙_, ap, subst}
 use mathlib.Core.Bool.{Bool, true, false, _&&_}
 use mathlib.Core.List.{List, [], _∷_}
-use Prim.Native.Nat.{ℕ, zero, suc, _+_, _*_, _%_, _≤_, _<_}
+use Prim.Native.Nat.{ℕ, zero, suc, _%_, _≤_}
 use native.Mathlib.Omega.{arith}
-use lib.Dec.{eqb, leb, ltb}
+use lib.Dec.{eqb, leb}
 use lib.ListN.{length, replicate}
 use borrow.Author.Tests.{ne-eqb}
 use Rattle.book.specs.declared.Verdict.{Verdict}
@@ -12,14 +12,14 @@ use Rattle.book.specs.declared.Verdict.the-variants.{Fine, Refused}
 use Rattle.book.specs.Records.{field, records, lastRecord}
 use Rattle.book.specs.Kinds.{Kind, variableKind, termKind, linkKind, atomKind, andKind, orKind, supposeKind, clauseKind, tieKind, questionKind, noKind, kindAt}
 use Rattle.book.specs.Scan.{lowestFailing, lower}
-use Rattle.book.specs.Scope.{scopeFault, isNew, tieScope, ownTieScope, overLinks, bodyScope, scopeBy, scopeAt, ownClauseScope, scopeTest}
+use Rattle.book.specs.Scope.{scopeFault, tieScope, ownTieScope, overLinks, bodyScope, scopeBy, scopeAt, ownClauseScope, scopeTest}
 use Rattle.book.specs.Refusals.{roomFits, sizeFits, kindOk, fieldsOk, targetsOk, kindTest, fieldTest, targetTest, treeTest, recordTests, bookVerdict, verdict}
 use Rattle.book.specs.Pointing.{allPointers, once}
 use Rattle.book.proofs.Accepted.{Accepted, call-accepted}
 use Rattle.book.proofs.Tests.{and-true, leb-says, eqb-says}
-use Rattle.machine.specs.declared.Outcome.the-variants.{Declined, Ended}
+use Rattle.machine.specs.declared.Outcome.the-variants.{Declined}
 use Rattle.machine.specs.declared.Reply.{Reply}
-use Rattle.machine.specs.Call.{Called, noCounts, runOf, accepted, declined, call}
+use Rattle.machine.specs.Call.{noCounts, runOf, accepted, declined, call}
 use Rattle.refusals.specs.Passes.{wordsAfter, testedWords}
 use Rattle.refusals.proofs.WordLaws.{tested-refused}
 

@@ -1,16 +1,16 @@
 -- What the code finds is a plain rule.
 use mathlib.Core.Path.{_≡_, refl, sym, _∙_, ap}
-use mathlib.Core.Logic.{_⊎_, inl, inr}
+use mathlib.Core.Logic.{inl, inr}
 use mathlib.Core.Bool.{Bool, true, false, _&&_}
 use mathlib.Core.List.{List, [], _∷_}
 use Prim.Native.Nat.{ℕ, zero, suc, _+_, _-_, _≤_, _<_}
 use native.Mathlib.Omega.{arith}
 use native.Mathlib.Nat.{sub-zero}
 use borrow.Author.Tests.{eq-eqb, ne-eqb, eqb-true, lt-ltb, le-ltb, ltb-true, le-leb, lt-leb, leb-true}
-use lib.Dec.{eqb, leb, ltb}
+use lib.Dec.{eqb, ltb}
 use lib.ListN.{length}
 use Rattle.book.specs.Records.{field, records}
-use Rattle.book.specs.Kinds.{kindAt, kindOf, atomKind}
+use Rattle.book.specs.Kinds.{kindAt, kindOf}
 use Rattle.book.specs.Decode.{clausesOf}
 use Rattle.book.proofs.Tests.{and-true}
 use Rattle.book.proofs.Accepted.{Formed}

@@ -1,24 +1,23 @@
 -- What the machine does with a plain rule: the atom is taken and the clause entered, two units, and the body stands in the atom's place.
-use mathlib.Core.Path.{_≡_, refl, sym, _∙_, ap}
-use mathlib.Core.List.{List, [], _∷_, _++_, append-nil}
-use Prim.Native.Nat.{ℕ, zero, suc, _+_, _-_, _*_, _≤_, _<_}
+use mathlib.Core.Path.{_≡_, refl, _∙_, ap}
+use mathlib.Core.List.{List, [], _∷_, append-nil}
+use Prim.Native.Nat.{ℕ, suc, _+_, _-_, _*_, _≤_, _<_}
 use native.Mathlib.Omega.{arith}
-use native.Mathlib.Nat.{add-zero}
 use native.Mathlib.Decide.{decLt}
 use borrow.Author.Tests.{le-leb, eq-eqb}
 use lib.ListN.{length}
 use Rattle.book.specs.Records.{field, records, members, lastRecord}
 use Rattle.book.specs.Kinds.{kindAt, clauseKind}
-use Rattle.book.specs.Tree.{Goal, Body, Texts, Tie, noText, withBody, tiesOf, bodyOf, variablesOf, headArguments}
-use Rattle.book.specs.Scoped.{ScopedClause, ScopedBody, ScopedGoal}
+use Rattle.book.specs.Tree.{Goal, Texts, Tie, noText, withBody, tiesOf, bodyOf, variablesOf, headArguments}
+use Rattle.book.specs.Scoped.{ScopedBody, ScopedGoal}
 use Rattle.book.specs.Decode.{clauseOf, goalOf, argumentsOf, textsFrom, bodyBy}
 use Rattle.book.proofs.Accepted.{Accepted}
 use Rattle.book.proofs.Pointers.{clause-body}
 use Rattle.book.proofs.Unfolding.{goal-atom, clause-of, clause-variables, clause-does, count-arguments}
 use Rattle.machine.specs.declared.Tally.{Tally}
 use Rattle.machine.specs.Term.{Terms, instances, fills, pairUp}
-use Rattle.machine.specs.Store.{Entry, newEntries}
-use Rattle.machine.specs.Machine.{Force, Todo, Atom, Branch, Thread, solving, entering, on, advance, taking, tryAll, took, todo, enter, entered, headPairs, withBodyOf, settle, candidates}
+use Rattle.machine.specs.Store.{newEntries}
+use Rattle.machine.specs.Machine.{Force, Todo, Atom, Branch, Thread, solving, entering, on, advance, taking, tryAll, took, todo, enter, entered, withBodyOf, settle}
 use Rattle.machine.specs.Answers.{Line}
 use Rattle.machine.specs.Run.{Request, counted}
 use Rattle.branch.specs.State.{ownRun, restOf, GoalHere}
@@ -27,7 +26,7 @@ use Rattle.branch.proofs.TakeLaws.{goal-unit}
 use Rattle.branch.proofs.ClauseLaws.{ClauseHere, own-clause}
 use Rattle.steps.specs.Search.{runOn, spentUnits}
 use Rattle.steps.proofs.RunLaws.{none-spent, unit-on}
-use Rattle.following.specs.Plain.{PlainClause, ownProgram, Plain, Chain, Chain.chain-none, Chain.chain-more}
+use Rattle.following.specs.Plain.{ownProgram, Plain, Chain, Chain.chain-none, Chain.chain-more}
 use Rattle.following.proofs.PlainLaws.{body-in}
 use Rattle.seeking.proofs.SeekLaws.{rest-begins}
 

@@ -3,8 +3,7 @@
 ghost use mathlib.Core.Path.{_≡_};
 ghost use Prim.Native.Nat.{_<_};
 ghost use lib.ListN.{length};
-ghost use Rattle.book.specs.Records.{field as bookField, records};
-ghost use Rattle.book.specs.Kinds.{kindAt, clauseKind};
+ghost use Rattle.book.specs.Records.{records};
 ghost use Rattle.book.proofs.Accepted.{Formed};
 ghost use Rattle.words.specs.Readable.{Readable};
 ghost use Rattle.branch.specs.State.{OwnReady, ownRun};

@@ -1,12 +1,11 @@
 -- Laws of buckets, for any way bk of giving a bucket to a symbol and an argument count.
-use mathlib.Core.Path.{_≡_, refl, sym, _∙_, ap}
+use mathlib.Core.Path.{_≡_, refl, sym, _∙_}
 use mathlib.Core.Bool.{Bool, true, false}
 use mathlib.Core.List.{List}
-use Prim.Native.Nat.{ℕ, zero, suc, _+_, _-_, _≤_, _<_}
+use Prim.Native.Nat.{ℕ, _+_, _-_, _≤_, _<_}
 use native.Mathlib.Omega.{arith}
 use native.Mathlib.Decide.{ℕ-discrete}
 use borrow.Author.Tests.{eq-eqb, ne-eqb, eqb-true}
-use lib.Dec.{eqb}
 use Rattle.book.specs.Records.{field}
 use Rattle.index.specs.Runs.{headMatches, matchesAt, nextMatch}
 use Rattle.index.specs.Index.{bucketOf, isIn, nextIn, InBucket}

@@ -1,15 +1,15 @@
 -- Laws of the lists of heads: the search for a head goes along its bucket's list, and what changes when one more clause is entered in front.
-use mathlib.Core.Path.{_≡_, refl, sym, _∙_, ap}
+use mathlib.Core.Path.{_≡_, refl, sym, _∙_}
 use mathlib.Core.Bool.{Bool, true, false, _&&_}
 use mathlib.Core.List.{List}
 use Prim.Native.Nat.{ℕ, zero, suc, _+_, _-_, _*_, _/_, _%_, _≤_, _<_}
 use native.Mathlib.Omega.{arith}
-use native.Mathlib.Decide.{ℕ-discrete, decLt}
+use native.Mathlib.Decide.{decLt}
 use borrow.Author.Tests.{eq-eqb, ne-eqb, eqb-true, lt-ltb, le-ltb}
 use lib.Dec.{eqb}
 use Rattle.book.specs.Records.{field}
 use Rattle.book.proofs.Tests.{and-true}
-use Rattle.index.specs.Runs.{headMatches, nextSuch, matchesAt, nextMatch}
+use Rattle.index.specs.Runs.{headMatches, matchesAt, nextMatch}
 use Rattle.index.specs.Index.{headBucket, bucketOf, symbolOf, countOf, startOf, nextSame, isLast, inList, nextLast, lastHead, lastMatch, linkOr, wordOf}
 use Rattle.index.proofs.SuchLaws.{clash, such-bounds, such-found, such-most, such-none, such-here, such-on, such-same}
 use Rattle.index.proofs.RunLaws.{next-none, next-found, next-on}

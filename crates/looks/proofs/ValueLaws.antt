@@ -9,7 +9,7 @@ use Rattle.machine.specs.Term.{Term}
 use Rattle.machine.specs.Store.{walk}
 use Rattle.words.specs.Words.{termWord, recOf, baseOf, termOf, termW, storeOf}
 use Rattle.words.specs.Readable.{Readable, TextRec}
-use Rattle.words.specs.Good.{Below, Good, GoodTerm, Slots, ReadThrough}
+use Rattle.words.specs.Good.{Below, GoodTerm, Slots, ReadThrough}
 use Rattle.words.proofs.PackLaws.{rec-pack, base-pack, pack-large, base-small}
 use Rattle.words.proofs.ReadLaws.{word-for-var}
 use Rattle.words.proofs.TextLaws.{term-app, term-var}

@@ -1,4 +1,4 @@
--- One turn of each loop.
+-- One turn of the look, and the whole look.
 use mathlib.Core.Path.{_≡_}
 use mathlib.Core.List.{List, []}
 use Prim.Native.Nat.{ℕ, _-_}

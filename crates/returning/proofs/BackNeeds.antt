@@ -1,6 +1,6 @@
 -- Going back, as the code does it: what it needs, and what the step gives.
 use mathlib.Core.Path.{_≡_, refl, sym, _∙_, ap}
-use mathlib.Core.Bool.{true, false}
+use mathlib.Core.Bool.{false}
 use mathlib.Core.List.{List, _∷_}
 use Prim.Native.Nat.{ℕ, _-_, _≤_}
 use native.Mathlib.Omega.{arith}
@@ -19,7 +19,7 @@ use Rattle.steps.proofs.RunLaws.{none-spent}
 use Rattle.steps.proofs.LeaveLaws.{leaves-between}
 use Rattle.words.proofs.FrameLaws.{undo-keeps}
 use Rattle.branch.specs.declared.Back.{Back}
-use Rattle.branch.specs.State.{OwnReady, ownRun, IsBranch}
+use Rattle.branch.specs.State.{OwnReady, IsBranch}
 use Rattle.branch.specs.Alternatives.{backOf, BackReady}
 use Rattle.steps.specs.declared.Regs.{Regs}
 use Rattle.steps.specs.declared.Stepped.{Stepped}

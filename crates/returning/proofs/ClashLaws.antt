@@ -1,27 +1,27 @@
 -- A candidate that clashes with the atom at once is passed over in two units.
-use mathlib.Core.Path.{_≡_, refl, sym, _∙_, ap}
-use mathlib.Core.Bool.{Bool, true, false, _&&_}
-use mathlib.Core.List.{List, [], _∷_, _++_}
-use Prim.Native.Nat.{ℕ, zero, suc, _+_, _-_, _≤_, _<_}
+use mathlib.Core.Path.{_≡_, refl, _∙_, ap}
+use mathlib.Core.Bool.{false, _&&_}
+use mathlib.Core.List.{List, _++_}
+use Prim.Native.Nat.{ℕ, suc, _+_, _-_, _<_}
 use native.Mathlib.Omega.{arith}
 use lib.Dec.{eqb}
 use lib.ListN.{length}
-use Rattle.book.specs.Records.{field, records}
-use Rattle.book.specs.Tree.{headArguments, variablesOf}
+use Rattle.book.specs.Records.{field}
+use Rattle.book.specs.Tree.{headArguments}
 use Rattle.book.specs.Scoped.{ScopedTexts}
-use Rattle.book.specs.Decode.{clauseOf, argumentsOf, textsFrom, textOf}
+use Rattle.book.specs.Decode.{argumentsOf, textsFrom, textOf}
 use Rattle.book.proofs.Accepted.{Accepted}
 use Rattle.book.proofs.Unfolding.{clause-of, goal-atom, count-arguments}
 use Rattle.machine.specs.declared.Tally.{Tally}
-use Rattle.machine.specs.Term.{Term, Terms, var, app, cons, count, instances, fill}
+use Rattle.machine.specs.Term.{Term, Terms, var, app, cons, count, instances}
 use Rattle.machine.specs.Store.{Entry, walk}
-use Rattle.machine.specs.Machine.{Force, Thread, entering, candidates, tryAll, entered}
+use Rattle.machine.specs.Machine.{Thread, candidates, tryAll}
 use Rattle.machine.specs.Answers.{Line}
 use Rattle.machine.specs.Run.{Request}
 use Rattle.machine.proofs.TermLaws.{count-fills}
-use Rattle.words.specs.Words.{termOf, termW, wordFor, symW, argsW, recOf, baseOf, storeOf}
-use Rattle.words.specs.Readable.{Readable, TextRec, TermRec, HasArguments}
-use Rattle.words.specs.Good.{Below, Good, GoodTerm, Slots, ReadThrough}
+use Rattle.words.specs.Words.{termOf, wordFor, symW, argsW, recOf, baseOf, storeOf}
+use Rattle.words.specs.Readable.{Readable, TextRec, HasArguments}
+use Rattle.words.specs.Good.{Below, Good, GoodTerm, Slots}
 use Rattle.words.proofs.TextLaws.{term-app, args-cons}
 use Rattle.words.proofs.SlotLaws.{word-app, good-term, slots-fall}
 use Rattle.words.proofs.StackLaws.{RunOf, run-first, word-says}
@@ -32,7 +32,7 @@ use Rattle.steps.specs.Search.{runOn, spentUnits}
 use Rattle.steps.specs.Enters.{EnterReady}
 use Rattle.steps.proofs.ReadyLaws.{has-atom}
 use Rattle.returning.specs.Returns.{atomOf, ToClause}
-use Rattle.returning.specs.Passing.{firstArgument, FirstIs, Clashes, Passes}
+use Rattle.returning.specs.Passing.{firstArgument, FirstIs, Clashes}
 use Rattle.returning.proofs.ClashUnits.{walk-grown, clash-units}
 use Rattle.returning.proofs.CandidateLaws.{clauseNow, outerNow, clause-now, can-enter, made-now, variables-now}
 

@@ -1,17 +1,17 @@
 -- A candidate whose first argument clashes at once: the machine enters it and fails at the first pair, two units, and nothing is changed.
-use mathlib.Core.Path.{_≡_, refl, sym, _∙_, ap}
-use mathlib.Core.Bool.{Bool, true, false, _&&_}
+use mathlib.Core.Path.{_≡_, refl, _∙_, ap}
+use mathlib.Core.Bool.{false, _&&_}
 use mathlib.Core.List.{List, [], _∷_, _++_}
 use Prim.Native.Nat.{ℕ, zero, suc, _+_, _≤_, _<_}
 use native.Mathlib.Omega.{arith}
-use lib.Dec.{eqb, leb}
+use lib.Dec.{eqb}
 use lib.ListN.{length}
 use borrow.Author.Tests.{le-leb}
-use Rattle.book.specs.Tree.{headArguments, variablesOf, tiesOf}
+use Rattle.book.specs.Tree.{headArguments, variablesOf}
 use Rattle.machine.specs.declared.Tally.{Tally}
 use Rattle.machine.specs.Term.{Term, Terms, var, app, cons, count, instances, Pair, pairUp}
-use Rattle.machine.specs.Store.{Entry, open-entry, same, bound, entryAt, follow, walk, newEntries}
-use Rattle.machine.specs.Machine.{Force, Atom, Branch, Thread, entering, unifying, Moved, on, failed, settle, tryAll, entered, headPairs, enter, pair, advance}
+use Rattle.machine.specs.Store.{Entry, open-entry, same, bound, entryAt, follow, walk}
+use Rattle.machine.specs.Machine.{Force, Atom, Branch, Thread, entering, unifying, on, failed, settle, tryAll, entered, headPairs, enter, pair, advance}
 use Rattle.machine.specs.Answers.{Line}
 use Rattle.machine.specs.Run.{Request, counted}
 use Rattle.machine.proofs.StoreLaws.{entry-before}

@@ -10,7 +10,7 @@ use Rattle.words.proofs.StackLaws.{keeps-narrow, store-same}
 use Rattle.seeking.proofs.SeekChain.{all-same}
 use Rattle.branch.specs.declared.Back.{Back}
 use Rattle.seeking.specs.declared.Candidate.{Candidate}
-use Rattle.branch.specs.State.{OwnReady, ownRun}
+use Rattle.branch.specs.State.{OwnReady}
 use Rattle.seeking.specs.Seeking.{AllIndexed}
 use Rattle.seeking.specs.Memo.{MemoOnly}
 use Rattle.branch.proofs.StateLaws.{sound-agree, branch-agree, waiting-agree, rest-agree}

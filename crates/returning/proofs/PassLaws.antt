@@ -1,31 +1,27 @@
 -- Passing over candidates, as the code does it.
 use mathlib.Core.Path.{_≡_, refl, sym, _∙_, ap}
-use mathlib.Core.Logic.{_⊎_, inl, inr}
-use mathlib.Core.Bool.{Bool, true, false, _&&_, not}
-use mathlib.Core.List.{List, [], _∷_, _++_}
-use Prim.Native.Nat.{ℕ, zero, suc, _+_, _-_, _*_, _/_, _%_, _≤_, _<_}
+use mathlib.Core.Bool.{Bool, true, false, not}
+use mathlib.Core.List.{List, _∷_, _++_}
+use Prim.Native.Nat.{ℕ, suc, _+_, _-_, _*_, _/_, _%_, _≤_, _<_}
 use native.Mathlib.Omega.{arith}
 use native.Mathlib.Nat.{sub-zero}
 use borrow.Author.Tests.{eq-eqb, ne-eqb}
 use lib.Dec.{eqb}
-use lib.ListN.{length}
 use Rattle.book.specs.Records.{field, records}
 use Rattle.book.proofs.Accepted.{Accepted}
 use Rattle.machine.specs.declared.Tally.{Tally}
 use Rattle.machine.specs.declared.Ending.the-variants.{Stopped as StoppedEnding}
 use Rattle.machine.specs.declared.Limit.the-variants.{Budget}
-use Rattle.machine.specs.Machine.{Force, Thread, Branch, entering, candidates, tryAll}
+use Rattle.machine.specs.Machine.{Force, Thread, entering, candidates, tryAll}
 use Rattle.machine.specs.Answers.{Line}
 use Rattle.machine.specs.Run.{Request}
-use Rattle.words.specs.Words.{wordFor, symW, recOf, baseOf}
-use Rattle.words.specs.Readable.{Readable, TextRec, HasArguments}
-use Rattle.words.specs.Good.{Good, GoodTerm, Slots, ReadThrough}
-use Rattle.words.proofs.ReadLaws.{in-book, link-in}
+use Rattle.words.specs.Words.{wordFor, symW, recOf}
+use Rattle.words.specs.Readable.{Readable, TextRec}
+use Rattle.words.specs.Good.{Good, Slots, ReadThrough}
 use Rattle.words.proofs.SlotLaws.{good-term}
 use Rattle.branch.specs.declared.Back.{Back}
 use Rattle.seeking.specs.declared.Candidate.{Candidate}
 use Rattle.seeking.specs.declared.Candidate.the-variants.{At, Nothing}
-use Rattle.branch.specs.State.{IsRest}
 use Rattle.seeking.specs.Seeking.{Sought, Sought.sought, Sought.no-more}
 use Rattle.seeking.specs.Memo.{Memo, MemoStays}
 use Rattle.seeking.proofs.MemoLaws.{memo-less, stays-none, stays-trans}
@@ -38,11 +34,11 @@ use Rattle.steps.proofs.RunLaws.{none-spent}
 use Rattle.steps.proofs.LeaveLaws.{leaves-none, leaves-trans, leaves-only}
 use Rattle.returning.specs.declared.Passed.{Passed}
 use Rattle.returning.specs.declared.Passed.the-variants.{Next, Through}
-use Rattle.returning.specs.Returns.{Again, Candidates, atomOf, ToClause}
+use Rattle.returning.specs.Returns.{atomOf, ToClause}
 use Rattle.returning.specs.Reentry.{placeOf, moved}
 use Rattle.returning.specs.Passing.{firstArgument, FirstIs, Clashes, Passes, NextIs, OnePass, OnePass.moves, OnePass.gone, PassGives, PassGives.comes, PassGives.ends, regsGone, laterBy}
-use Rattle.returning.proofs.RenewLaws.{atom-record, atom-base, standing, here}
-use Rattle.returning.proofs.CandidateLaws.{clauseNow, clause-now, can-enter, no-budget}
+use Rattle.returning.proofs.RenewLaws.{atom-record, atom-base, here}
+use Rattle.returning.proofs.CandidateLaws.{clauseNow, can-enter, no-budget}
 use Rattle.returning.proofs.ClashLaws.{first-ready, first-good, pass-units}
 use Rattle.returning.proofs.MemoFrames.{clause-only, first-only}
 

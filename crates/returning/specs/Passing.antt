@@ -1,8 +1,8 @@
 -- Passing over candidates: a clause whose head has at its first argument a term with another symbol or argument count than the atom's, read through.
 -- The machine enters it and fails at the first pair: two units, and the next candidate is tried.
 use mathlib.Core.Path.{_≡_}
-use mathlib.Core.Bool.{Bool, true, false, _&&_}
-use mathlib.Core.List.{List, _∷_}
+use mathlib.Core.Bool.{false, _&&_}
+use mathlib.Core.List.{List}
 use Prim.Native.Nat.{ℕ, suc, _+_, _-_, _/_, _≤_, _<_}
 use lib.Dec.{eqb}
 use Rattle.book.specs.Records.{field}

@@ -1,15 +1,14 @@
 -- A turn that is an answer: given, the last one wanted, or cut off by a limit.
 use mathlib.Core.Path.{_≡_, refl, sym, _∙_, ap}
 use mathlib.Core.Bool.{Bool, true, false}
-use mathlib.Core.List.{List, [], _∷_, _++_}
-use Prim.Native.Nat.{ℕ, zero, suc, _+_, _-_, _*_, _/_, _≤_, _<_}
+use mathlib.Core.List.{List, [], _++_}
+use Prim.Native.Nat.{ℕ, suc, _+_, _-_, _/_, _≤_, _<_}
 use native.Mathlib.Omega.{arith}
 use native.Mathlib.Decide.{decLt}
 use lib.Dec.{eqb}
 use lib.ListN.{length}
 use borrow.Author.Tests.{eq-eqb, ne-eqb}
 use Rattle.machine.specs.declared.Limit.{Limit}
-use Rattle.machine.specs.declared.Ending.{Ending}
 use Rattle.machine.specs.declared.Ending.the-variants.{Enough, Stopped}
 use Rattle.machine.specs.declared.Tally.{Tally}
 use Rattle.machine.specs.Machine.{Branch, Thread, solving}
@@ -21,19 +20,17 @@ use Rattle.words.specs.Frame.{Keeps}
 use Rattle.branch.proofs.StateLaws.{sound-agree, waiting-agree}
 use Rattle.seeking.proofs.MemoLaws.{memo-kept}
 use Rattle.steps.specs.declared.Regs.{Regs}
-use Rattle.steps.specs.Search.{runOut, runOn, topsOf, backRegs, phase, Stands, Stands.going-back}
+use Rattle.steps.specs.Search.{runOut, runOn, topsOf, backRegs, Stands.going-back}
 use Rattle.steps.proofs.RunLaws.{at-thread}
 use Rattle.answers.specs.declared.Answered.{Answered}
 use Rattle.answers.specs.declared.Answered.the-variants as answered
 use Rattle.answers.specs.Buffer.{answerFor, replyOf, bufferAfter}
 use Rattle.answers.proofs.CallerLaws.{Given, Given.given, Given.stopped, gives}
-use Rattle.running.specs.declared.Turned.{Turned}
 use Rattle.running.specs.declared.Turned.the-variants.{On, Over}
 use Rattle.words.proofs.StackLaws.{keeps-narrow}
 use Rattle.seeking.proofs.SeekChain.{all-same}
-use Rattle.branch.specs.State.{ownRun}
 use Rattle.branch.proofs.FromScoped.{own-ready}
-use Rattle.running.specs.Turns.{Taken, requestOf, Midway, ahead, TurnGives, TurnGives.turns-on, TurnGives.turns-over, oneMore}
+use Rattle.running.specs.Turns.{Taken, requestOf, Midway, TurnGives, TurnGives.turns-on, TurnGives.turns-over, oneMore}
 use Rattle.running.proofs.HandLaws.{InHand, hand, list-empty, unit-answered, answer-agree}
 
 -- the tally, as the machine counts and as the code does

@@ -2,14 +2,14 @@
 use mathlib.Core.Path.{_≡_, refl, sym, _∙_, ap}
 use mathlib.Core.Bool.{Bool, true, false}
 use mathlib.Core.List.{List, [], _∷_}
-use Prim.Native.Nat.{ℕ, zero, suc, _+_, _-_, _*_, _≤_, _<_}
+use Prim.Native.Nat.{ℕ, suc, _+_, _-_, _≤_}
 use native.Mathlib.Omega.{arith}
 use lib.ListN.{length}
-use Rattle.book.specs.Records.{field, lastRecord}
+use Rattle.book.specs.Records.{lastRecord}
 use Rattle.book.proofs.Pointers.{question-fields}
 use Rattle.book.proofs.AcceptedScoped.{last-below, last-question}
 use Rattle.machine.specs.declared.Tally.{Tally}
-use Rattle.machine.specs.Machine.{Branch, Thread, solving, Todo, advance, solve, answered}
+use Rattle.machine.specs.Machine.{Branch, Thread, solving, Todo, advance, solve}
 use Rattle.machine.specs.Answers.{Line, write, unknownTerms}
 use Rattle.machine.specs.Run.{Request, Result, answering, after, step}
 use Rattle.words.specs.Readable.{Readable}

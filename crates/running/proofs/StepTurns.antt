@@ -1,13 +1,12 @@
 -- A turn that is a step, and a turn that finds the budget spent.
 use mathlib.Core.Path.{_≡_, refl, sym, _∙_, ap}
 use mathlib.Core.Bool.{Bool, true, false, _&&_}
-use mathlib.Core.List.{List, [], _∷_}
-use Prim.Native.Nat.{ℕ, zero, suc, _+_, _-_, _*_, _/_, _≤_, _<_}
+use mathlib.Core.List.{List}
+use Prim.Native.Nat.{ℕ, _+_, _-_, _<_}
 use native.Mathlib.Omega.{arith}
 use borrow.Author.Tests.{eqb-true, eqb-false}
 use lib.Dec.{eqb}
 use Rattle.machine.specs.declared.Limit.the-variants.{Budget}
-use Rattle.machine.specs.declared.Ending.{Ending}
 use Rattle.machine.specs.declared.Ending.the-variants.{Stopped}
 use Rattle.machine.specs.declared.Tally.{Tally}
 use Rattle.machine.specs.Machine.{Thread}
@@ -23,10 +22,9 @@ use Rattle.steps.proofs.RunLaws.{none-spent, units-most, unit-none}
 use Rattle.running.specs.declared.Turned.{Turned}
 use Rattle.running.specs.declared.Turned.the-variants.{Over}
 use Rattle.seeking.proofs.SeekChain.{all-same}
-use Rattle.branch.specs.State.{ownRun}
 use Rattle.branch.proofs.FromScoped.{own-ready}
 use Rattle.running.specs.Turns.{answerDue, Taken, requestOf, Midway, TurnGives, TurnGives.turns-on, TurnGives.turns-over, turnBy}
-use Rattle.running.proofs.HandLaws.{InHand, hand}
+use Rattle.running.proofs.HandLaws.{hand}
 
 -- WHETHER AN ANSWER IS DUE
 module _ (r : Regs) where

@@ -1,17 +1,15 @@
 -- Candidates along the programs.
 use mathlib.Core.Path.{_≡_}
-use mathlib.Core.Bool.{Bool, true, false, _&&_}
+use mathlib.Core.Bool.{Bool, true, false}
 use mathlib.Core.List.{List, [], _∷_}
-use Prim.Native.Nat.{ℕ, zero, suc, _+_, _*_, _/_, _≤_, _<_}
-use lib.Dec.{eqb}
+use Prim.Native.Nat.{ℕ, _+_, _*_, _/_, _<_}
 use lib.ListN.{getD}
-use Rattle.book.specs.Records.{field, records}
-use Rattle.index.specs.Runs.{headMatches, nextMatch, ClauseRun}
+use Rattle.book.specs.Records.{field}
+use Rattle.index.specs.Runs.{headMatches, nextMatch}
 use Rattle.index.specs.Index.{Indexed}
 use Rattle.supposed.specs.Supposed.{SupposedIndexed}
 use Rattle.machine.specs.Machine.{Force, candidates}
 use lib.Dec.{ltb}
-use Rattle.book.specs.Kinds.{kindAt, clauseKind}
 use Prim.Native.Nat.{_-_}
 use Rattle.branch.specs.State.{ownRun, IsRest, IsClause}
 use Rattle.seeking.specs.declared.Candidate.{Candidate}

@@ -1,7 +1,7 @@
 -- The start in the workspace stands for the start of the machine.
 use mathlib.Core.Path.{_≡_, refl, sym, _∙_, ap, subst}
-use mathlib.Core.Logic.{_⊎_, inl, inr}
-use mathlib.Core.Bool.{Bool, true, false}
+use mathlib.Core.Logic.{inl, inr}
+use mathlib.Core.Bool.{true, false}
 use mathlib.Core.List.{List, [], _∷_, map}
 use Prim.Native.Nat.{ℕ, zero, suc, _+_, _-_, _*_, _/_, _≤_, _<_}
 use native.Mathlib.Omega.{arith}
@@ -10,11 +10,11 @@ use lib.ListN.{length, getD, take, replicate}
 use Rattle.book.specs.Records.{field, records, lastRecord}
 use Rattle.book.specs.Kinds.{kindAt, isGoal}
 use Rattle.book.specs.Scoped.{ScopedGoal}
-use Rattle.book.specs.Decode.{questionOf, clausesOf, goalOf}
+use Rattle.book.specs.Decode.{questionOf, goalOf}
 use Rattle.book.proofs.Accepted.{Accepted}
 use Rattle.book.proofs.AcceptedScoped.{has-records, last-below, last-question, accepted-scoped}
 use Rattle.book.proofs.Pointers.{question-fields, question-goal}
-use Rattle.machine.specs.Machine.{Force, Todo, Branch, Thread, solving, added, todo}
+use Rattle.machine.specs.Machine.{Force, solving, added, todo}
 use Rattle.machine.specs.Store.{Entry, open-entry}
 use Rattle.machine.specs.Run.{start}
 use Rattle.machine.specs.Call.{noCounts}
@@ -32,10 +32,9 @@ use Rattle.seeking.specs.Memo.{Memo}
 use Rattle.branch.proofs.FromScoped.{own-ready}
 use Rattle.seeking.proofs.MemoLaws.{memo-none}
 use Rattle.words.specs.Words.{termWord, entryW, storeOf}
-use Rattle.words.specs.Good.{Slots}
 use Rattle.words.specs.Frame.{Keeps}
 use Rattle.words.proofs.FromAccepted.{readable}
-use Rattle.branch.specs.State.{Tops, GoalHere, IsRest, IsRest.own-rest, IsProgram, IsGoals, IsGoals.no-goals, IsGoals.goal-cell, IsBranch, Sound, Waiting, Waiting.none-waiting, ownRun, restOf, putCell}
+use Rattle.branch.specs.State.{IsRest, IsRest.own-rest, IsProgram, IsGoals, IsGoals.no-goals, IsGoals.goal-cell, Sound, Waiting.none-waiting, ownRun, restOf, putCell}
 use Rattle.branch.proofs.TakeLaws.{put-outside, cell-word}
 use Rattle.steps.specs.declared.Regs.{Regs}
 use Rattle.steps.specs.Search.{topsOf, Stands, Stands.in-hand}

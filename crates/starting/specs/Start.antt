@@ -1,7 +1,7 @@
 -- The start of a run in the workspace: one goal cell, with the question's goal and its own clauses for a program; every unknown open.
 use mathlib.Core.Bool.{true, false}
 use mathlib.Core.List.{List}
-use Prim.Native.Nat.{ℕ, _+_, _≤_, _<_}
+use Prim.Native.Nat.{ℕ, _≤_, _<_}
 use mathlib.Core.Path.{_≡_}
 use lib.ListN.{length, getD, replicate}
 use Rattle.book.proofs.Accepted.{Accepted}

@@ -1,22 +1,22 @@
 -- The clause of an alternative can be entered.
-use mathlib.Core.Path.{_≡_, refl, sym, _∙_, ap}
-use mathlib.Core.Logic.{_⊎_, inl, inr}
-use mathlib.Core.Bool.{Bool, true, false, _&&_}
-use mathlib.Core.List.{List, [], _∷_}
-use Prim.Native.Nat.{ℕ, zero, suc, _+_, _-_, _*_, _≤_, _<_}
+use mathlib.Core.Path.{_≡_}
+use mathlib.Core.Logic.{inr}
+use mathlib.Core.Bool.{true}
+use mathlib.Core.List.{List}
+use Prim.Native.Nat.{ℕ, _+_, _-_, _≤_, _<_}
 use native.Mathlib.Omega.{arith}
 use lib.Dec.{eqb}
 use Rattle.book.specs.Records.{field, records}
 use Rattle.book.specs.Kinds.{Kind, kindAt, kindOf, atomKind, clauseKind}
-use Rattle.book.specs.Tree.{Clause, Body, clause, atom}
-use Rattle.book.specs.Scoped.{ScopedClause, ScopedGoal, ScopedTexts, ScopedTies, ScopedBody}
+use Rattle.book.specs.Tree.{clause, atom}
+use Rattle.book.specs.Scoped.{ScopedClause, ScopedTexts, ScopedTies, ScopedBody}
 use Rattle.book.specs.Decode.{clauseOf, goalOf, argumentsOf, tiesFrom, bodyBy}
-use Rattle.book.proofs.Accepted.{Accepted, Formed}
+use Rattle.book.proofs.Accepted.{Accepted}
 use Rattle.book.proofs.KindLaws.{KindSays, kind-says}
 use Rattle.book.proofs.Tests.{and-true, eqb-says}
 use Rattle.book.proofs.Pointers.{clause-fields, clause-head}
 use Rattle.book.proofs.Unfolding.{clause-of, goal-atom}
-use Rattle.words.specs.Readable.{Readable, HasArguments}
+use Rattle.words.specs.Readable.{HasArguments}
 use Rattle.words.specs.Good.{Slots}
 use Rattle.words.specs.Frame.{TrailFits}
 use Rattle.words.proofs.ReadLaws.{in-book}

@@ -1,16 +1,14 @@
 -- The run by its threads: what the machine does from a list of threads, the first in hand, and how the code's registers stand for that list.
 use mathlib.Core.Path.{_≡_}
 use mathlib.Core.Bool.{Bool, true, false}
-use mathlib.Core.List.{List, [], _∷_}
-use Prim.Native.Nat.{ℕ, suc, _+_, _-_, _*_, _≤_, _<_}
+use mathlib.Core.List.{List, _∷_}
+use Prim.Native.Nat.{ℕ, _+_, _-_, _*_, _≤_, _<_}
 use lib.ListN.{length}
-use Rattle.machine.specs.declared.Limit.{Limit}
 use Rattle.machine.specs.declared.Ending.{Ending}
-use Rattle.machine.specs.declared.Ending.the-variants.{Complete, Enough, Stopped}
 use Rattle.machine.specs.declared.Tally.{Tally}
 use Rattle.machine.specs.Machine.{Thread, solving, Branch}
 use Rattle.machine.specs.Answers.{Line}
-use Rattle.machine.specs.Run.{Request, State, Outgoing, next, ended, goOn, Result, run}
+use Rattle.machine.specs.Run.{Request, Outgoing, next, ended, goOn, Result, run}
 use Rattle.words.specs.Frame.{Keeps}
 use Rattle.branch.specs.State.{Tops, IsBranch, Sound, Waiting}
 use Rattle.seeking.specs.Memo.{Memo}

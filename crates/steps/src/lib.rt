@@ -1,7 +1,6 @@
 // The steps of the search: the registers, what a step gives, and entering a clause.
 ghost use mathlib.Core.Path.{_≡_};
-ghost use Prim.Native.Nat.{_+_, _-_, _*_, _≤_, _<_};
-ghost use lib.ListN.{length, getD, set};
+ghost use Prim.Native.Nat.{_+_, _-_};
 ghost use Rattle.words.specs.Readable.{Readable};
 ghost use Rattle.steps.specs.Enters.{EnterReady, Enters};
 ghost use Rattle.steps.specs.Search.{backRegs};

@@ -1,7 +1,7 @@
 -- Taking an atom: the search for its first candidate, and what is kept.
 use mathlib.Core.Path.{_≡_, refl}
 use mathlib.Core.List.{List, [], _∷_}
-use Prim.Native.Nat.{ℕ, _+_, _-_, _<_}
+use Prim.Native.Nat.{ℕ, _-_, _<_}
 use native.Mathlib.Omega.{arith}
 use Rattle.book.specs.Records.{field}
 use Rattle.book.specs.Kinds.{kindAt, atomKind}

@@ -1,7 +1,7 @@
 -- Following plain rules, as the machine says it: what the code writes stands for what the units give.
 use mathlib.Core.Path.{_≡_, refl, sym, _∙_, ap}
 use mathlib.Core.List.{List, _∷_}
-use Prim.Native.Nat.{ℕ, _+_, _-_, _*_, _≤_, _<_}
+use Prim.Native.Nat.{ℕ, _+_, _-_, _*_, _<_}
 use native.Mathlib.Omega.{arith}
 use lib.ListN.{length}
 use Rattle.book.specs.Decode.{goalOf}
@@ -10,7 +10,6 @@ use Rattle.machine.specs.declared.Tally.{Tally}
 use Rattle.machine.specs.Answers.{Line}
 use Rattle.machine.specs.Run.{Request}
 use Rattle.machine.specs.Machine.{Thread, Todo, Force, solving, Branch, todo}
-use Rattle.branch.specs.State.{IsProgram}
 use Rattle.branch.proofs.StateLaws.{store-made}
 use Rattle.seeking.proofs.SeekOwn.{own-at}
 use Rattle.branch.proofs.TakeLaws.{CellAt}
@@ -21,7 +20,6 @@ use Rattle.steps.specs.declared.Regs.{Regs}
 use Rattle.steps.specs.declared.Stepped.the-variants.{Onward}
 use Rattle.steps.proofs.LeaveLaws.{leaves-cell}
 use Rattle.steps.specs.Search.{runOn, spentUnits, topsOf, Stands.in-hand, StepGives, StepGives.steps-on}
-use Rattle.taking.specs.declared.Cell.{Cell}
 use Rattle.taking.specs.Takes.{PlainAhead, plainWords, plainRegs}
 use Rattle.taking.proofs.HandLaws.{Hand, withGoal, goal-hand}
 use Rattle.taking.proofs.TakeRuns.{cellHere}

@@ -1,6 +1,6 @@
 // Taking a goal: one unit of the run; or, where plain rules lead on from it, two units for each of them.
 ghost use mathlib.Core.Path.{_≡_};
-ghost use mathlib.Core.Bool.{true, false};
+ghost use mathlib.Core.Bool.{true};
 ghost use Prim.Native.Nat.{ℕ, _+_, _-_, _*_, _≤_, _<_};
 ghost use lib.ListN.{length, getD};
 ghost use Rattle.words.specs.Readable.{Readable, HasArguments};

@@ -1,5 +1,5 @@
 use native.Mathlib.Omega.{arith}
-use mathlib.Core.Path.{refl, sym, _∙_}
+use mathlib.Core.Path.{sym, _∙_}
 use Rattle.following.proofs.PlainLaws.{run-ready, link-in, matches-here, not-atom, not-bare, none-own, two-own, one-own}
 use borrow.Author.Needs.{needs}
 use Rattle.following.proofs.plain_body.Statement.{statement}

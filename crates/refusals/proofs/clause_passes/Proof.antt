@@ -1,6 +1,5 @@
 use Rattle.refusals.proofs.PassLaws.{never}
-use mathlib.Core.Path.{_≡_, sym, _∙_}
-use mathlib.Core.Bool.{true, false}
+use mathlib.Core.Path.{sym, _∙_}
 use Rattle.targets.proofs.WithinLaws.{clause-within}
 use borrow.Author.Needs.{needs}
 use Rattle.refusals.proofs.clause_passes.Statement.{statement}

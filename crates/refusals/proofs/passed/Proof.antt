@@ -1,7 +1,5 @@
-use mathlib.Core.Path.{_≡_, refl}
 use Prim.Native.Nat.{_-_}
 use native.Mathlib.Omega.{arith}
-use borrow.Author.Needs.{needs}
 use borrow.Author.Tests.{not-false}
 use Rattle.refusals.specs.Passes.{Passed}
 use Rattle.refusals.proofs.PassLaws.{readable, passed-first, passed-more}

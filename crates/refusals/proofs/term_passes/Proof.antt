@@ -1,5 +1,4 @@
-use mathlib.Core.Path.{_≡_, sym, _∙_}
-use mathlib.Core.Bool.{true, false}
+use mathlib.Core.Path.{sym, _∙_}
 use Rattle.targets.proofs.WithinLaws.{term-within}
 use Rattle.refusals.proofs.PassLaws.{bare-passes, never}
 use borrow.Author.Needs.{needs}

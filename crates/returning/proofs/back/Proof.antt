@@ -1,4 +1,3 @@
-use native.Mathlib.Omega.{arith}
 use Rattle.returning.specs.Reaching.{ReachGives.reach-on, ReachGives.reach-end}
 use Rattle.returning.proofs.ReturnLaws.{complete}
 use Rattle.returning.proofs.BackNeeds.{back-ready, goal-memo, clause-memo, memo-done, goal-again, clause-reached}

@@ -1,8 +1,7 @@
 use native.Mathlib.Omega.{arith}
-use mathlib.Core.Path.{_≡_, refl, sym, _∙_}
+use mathlib.Core.Path.{refl}
 use Rattle.words.specs.Words.{recOf}
 use Rattle.returning.proofs.PassLaws.{clash-symbol, clash-count, no-clash}
-use borrow.Author.Needs.{needs}
 use Rattle.returning.proofs.clashes.Statement.{statement}
 use Rattle.returning.proofs.clashes.Tie as tie
 use Rattle.returning.proofs.clashes.Reads as reads

@@ -1,5 +1,4 @@
 use native.Mathlib.Omega.{arith}
-use mathlib.Core.Path.{_≡_, refl, sym, _∙_}
 use Rattle.returning.proofs.RenewLaws.{atom-large, atom-inside}
 use Rattle.returning.proofs.PassLaws.{first-link, first-text, first-is}
 use Rattle.returning.proofs.first_word.Statement.{statement}

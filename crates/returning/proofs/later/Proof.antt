@@ -1,7 +1,6 @@
 use native.Mathlib.Omega.{arith}
-use Rattle.steps.specs.Search.{unitsOf}
 use Rattle.returning.specs.Passing.{laterBy}
-use mathlib.Core.Path.{_≡_, refl, sym, _∙_}
+use mathlib.Core.Path.{refl}
 use borrow.Author.Needs.{needs}
 use Rattle.returning.proofs.later.Statement.{statement}
 use Rattle.returning.proofs.later.Tie as tie

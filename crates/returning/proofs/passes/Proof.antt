@@ -3,7 +3,6 @@ use mathlib.Core.Path.{ap}
 use Rattle.returning.proofs.CandidateLaws.{leads}
 use Rattle.returning.proofs.TryNeeds.{clause-inside}
 use Rattle.returning.proofs.PassLaws.{never, clash-ready}
-use borrow.Author.Needs.{needs}
 use Rattle.returning.proofs.passes.Statement.{statement}
 use Rattle.returning.proofs.passes.Tie as tie
 use Rattle.returning.proofs.passes.Reads as reads

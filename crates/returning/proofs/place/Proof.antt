@@ -1,5 +1,5 @@
 use native.Mathlib.Omega.{arith}
-use mathlib.Core.Path.{refl, sym, _∙_}
+use mathlib.Core.Path.{refl}
 use Rattle.book.specs.Records.{records, lastRecord}
 use Rattle.seeking.proofs.SeekOwn.{last-in}
 use Rattle.branch.proofs.FromScoped.{own-ready}

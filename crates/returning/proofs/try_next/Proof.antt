@@ -1,5 +1,5 @@
 use native.Mathlib.Omega.{arith}
-use mathlib.Core.Path.{refl, sym, _∙_}
+use mathlib.Core.Path.{refl}
 use Rattle.returning.proofs.RenewLaws.{atom-large}
 use Rattle.returning.proofs.CandidateLaws.{leads}
 use Rattle.returning.proofs.TryNeeds.{clause-inside, over, put-ready, enter-ready-is, units-fit, tried-memo, tried}

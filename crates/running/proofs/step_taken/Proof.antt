@@ -1,4 +1,4 @@
-use mathlib.Core.Path.{_≡_, refl, sym, _∙_, ap}
+use mathlib.Core.Path.{refl}
 use Rattle.running.specs.Turns.{turnBy}
 use borrow.Author.Needs.{needs}
 use Rattle.running.proofs.step_taken.Statement.{statement}

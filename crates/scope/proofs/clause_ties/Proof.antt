@@ -1,4 +1,3 @@
-use mathlib.Core.List.{[]}
 use Rattle.scope.specs.Ties.{tieRun}
 use borrow.Author.Needs.{needs}
 use Rattle.scope.proofs.clause_ties.Statement.{statement}

@@ -1,7 +1,5 @@
 use mathlib.Core.Path.{_≡_, sym, _∙_, ap}
-use mathlib.Core.Bool.{true, false}
 use Prim.Native.Nat.{ℕ}
-use lib.Dec.{ltb, eqb}
 use Rattle.book.specs.Records.{field}
 use Rattle.scope.proofs.PartLaws.{never, fine-variable, fine-term, fine-atom}
 use borrow.Author.Needs.{needs}

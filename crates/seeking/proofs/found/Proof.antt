@@ -1,6 +1,4 @@
-use native.Mathlib.Omega.{arith}
 use borrow.Author.Needs.{needs}
-use mathlib.Core.Path.{_≡_, refl, sym, _∙_, ap}
 use Rattle.seeking.proofs.found.Statement.{statement}
 use Rattle.seeking.proofs.found.Tie as tie
 use Rattle.seeking.proofs.found.Reads as reads

@@ -1,5 +1,5 @@
 use native.Mathlib.Omega.{arith}
-use mathlib.Core.Path.{refl, sym, _∙_}
+use mathlib.Core.Path.{refl}
 use Rattle.book.specs.Records.{records, lastRecord}
 use Rattle.seeking.proofs.SeekOwn.{own-yes, own-no, last-in, own-run-ready, from-first}
 use borrow.Author.Needs.{needs}

@@ -1,6 +1,6 @@
 use native.Mathlib.Omega.{arith}
 use borrow.Author.Needs.{needs}
-use mathlib.Core.Path.{_≡_, refl, sym, _∙_, ap}
+use mathlib.Core.Path.{_∙_}
 use Rattle.seeking.proofs.seek_first.Statement.{statement}
 use Rattle.seeking.proofs.seek_first.Tie as tie
 use Rattle.seeking.proofs.seek_first.Reads as reads

@@ -1,6 +1,6 @@
 use native.Mathlib.Omega.{arith}
 use borrow.Author.Needs.{needs}
-use mathlib.Core.Path.{_≡_, refl, sym, _∙_, ap}
+use mathlib.Core.Path.{_≡_, refl, sym, _∙_}
 use Rattle.seeking.proofs.seek_put.Statement.{statement}
 use Rattle.seeking.proofs.seek_put.Tie as tie
 use Rattle.seeking.proofs.seek_put.Reads as reads

@@ -1,8 +1,7 @@
-use mathlib.Core.Path.{_≡_, refl, sym, _∙_, ap}
+use mathlib.Core.Path.{_∙_}
 use borrow.Author.Needs.{needs}
 use Rattle.words.proofs.FromAccepted.{readable}
 use Rattle.supposed.proofs.SupposedKeeps.{supposed-length}
-use Rattle.starting.specs.Start.{Ready}
 use Rattle.starting.proofs.StartLaws.{run-ready}
 use Rattle.starting.proofs.whole_run.Statement.{statement}
 use Rattle.starting.proofs.whole_run.Tie as tie

@@ -1,7 +1,7 @@
 use borrow.Author.Tests.{not-true}
 use native.Mathlib.Omega.{arith}
 use borrow.Author.Needs.{needs}
-use mathlib.Core.Path.{_≡_, refl, sym, _∙_, ap}
+use mathlib.Core.Path.{refl, sym, _∙_}
 use Rattle.index.proofs.RunLaws.{suppose-run, found-yes, found-no}
 use Rattle.supposed.proofs.first_of.Statement.{statement}
 use Rattle.supposed.proofs.first_of.Tie as tie

@@ -1,6 +1,6 @@
 use native.Mathlib.Omega.{arith}
 use borrow.Author.Needs.{needs}
-use mathlib.Core.Path.{_≡_, refl, sym, _∙_, ap}
+use mathlib.Core.Path.{refl, _∙_}
 use Rattle.index.proofs.RunLaws.{suppose-run, found-yes, found-no}
 use Rattle.supposed.proofs.next_of.Statement.{statement}
 use Rattle.supposed.proofs.next_of.Tie as tie

@@ -1,6 +1,5 @@
 use native.Mathlib.Omega.{arith}
 use Rattle.following.proofs.PlainLaws.{leads}
-use borrow.Author.Needs.{needs}
 use Rattle.taking.proofs.plain_ahead.Statement.{statement}
 use Rattle.taking.proofs.plain_ahead.Tie as tie
 use Rattle.taking.proofs.plain_ahead.Reads as reads

@@ -1,4 +1,6 @@
 // The interface for C and for whoever calls as C does: one exported function over `engine::solve`. include/whittermay.h declares it and says what its numbers mean.
+#![tactic(auto)]
+
 ghost use Rattle.std.specs.Prelude.{◌≡◌};
 ghost use Rattle.machine.specs.Call.{call};
 ghost use Rattle.machine.specs.Run.{ending_number};

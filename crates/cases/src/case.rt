@@ -2,7 +2,7 @@
 // and then the bytes that the answer buffer starts with afterwards. Kind 0 is refusal a at record b; kind 1 is ending a, b answers, c assumed, d units.
 ghost use Rattle.std.specs.Prelude.{◌<◌};
 
-#[derive(Drop)]
+#[derive(Clone, Copy)]
 pub(crate) struct Case {
     pub(crate) length: usize,
     pub(crate) wanted: u32,

@@ -1,5 +1,7 @@
 // Runs every case of the files in data/ and compares the reply, every word of the workspace and every byte of the answer buffer, all of which start from
 // numbers that are not 0.
+#![tactic(auto)]
+
 mod case;
 mod compare;
 mod report;
@@ -40,7 +42,7 @@ fn count(counts: &mut [u32; 14], g: usize) {
     }
 }
 
-#[derive(Drop)]
+#[derive(Clone, Copy)]
 enum Ran {
     Right,
     Wrong,

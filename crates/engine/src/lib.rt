@@ -1,4 +1,6 @@
 // One call: the tests, the run, and the workspace all zero again.
+#![tactic(auto)]
+
 ghost use Rattle.std.specs.Prelude.{◌≡◌, ◌≤◌, length};
 ghost use Rattle.book.proofs.Accepted.{Accepted};
 ghost use Rattle.machine.specs.Call.{call, run_of, accepted};

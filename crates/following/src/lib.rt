@@ -1,5 +1,7 @@
 // Following plain rules: an atom without arguments whose only candidate is one of the question's own clauses, without variables and with a body. Entering it
 // binds nothing and makes nothing: the body takes the atom's place. So a chain of such rules is followed, two units a rule, without a word being written.
+#![tactic(auto)]
+
 ghost use Rattle.std.specs.Prelude.{◌≡◌, ◌<◌, length};
 ghost use Rattle.book.specs.Records.{records};
 ghost use Rattle.book.proofs.Accepted.{Formed};
@@ -9,7 +11,7 @@ ghost use Rattle.seeking.specs.Seeking.{AllIndexed};
 ghost use Rattle.following.specs.Plain.{plain_clause, plain_body, follow_on};
 
 // Where plain rules lead: the goal, and how many were entered on the way.
-#[derive(Drop)]
+#[derive(Clone, Copy)]
 pub struct Followed {
     pub goal: u32,
     pub rules: u32,

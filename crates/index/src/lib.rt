@@ -1,4 +1,6 @@
 // Finding clauses by their heads, symbol and argument count: the next clause of a run whose head matches an atom, and an index of the question's own run. The supposed runs' is in `supposed`.
+#![tactic(auto)]
+
 ghost use Rattle.std.specs.Prelude.{◌≡◌, true, ℕ, ◌+◌, ◌-◌, ◌*◌, ◌%◌, ◌≤◌, ◌<◌, length};
 ghost use Rattle.book.specs.Records.{field as book_field, records};
 ghost use Rattle.words.specs.Readable.{Readable};

@@ -1,4 +1,6 @@
 // One tally of units, answers and assumed answers is lent to the run and changed by it.
+#![tactic(auto)]
+
 ghost use Rattle.starting.specs.Start.{Ready, After};
 ghost use Rattle.machine.specs.Call.{no_counts};
 

@@ -1,4 +1,6 @@
 // Looking for a variable in a term, over the words of the workspace.
+#![tactic(auto)]
+
 ghost use Rattle.std.specs.Prelude.{◌≡◌, ◌+◌, ◌-◌, ◌*◌, ◌<◌};
 ghost use Rattle.words.specs.Readable.{Readable};
 ghost use Rattle.words.specs.Words.{term_of};
@@ -12,7 +14,7 @@ ghost use Rattle.looks.specs.Steps.{LookStepped, LookWent};
 use machine::Limit;
 
 // How a part of a run ended: it came to its end, it failed, or it met a limit.
-#[derive(Drop)]
+#[derive(Clone, Copy)]
 pub enum How {
     Done,
     Failed,
@@ -20,14 +22,14 @@ pub enum How {
 }
 
 // The same, with the units that it took.
-#[derive(Drop)]
+#[derive(Clone, Copy)]
 pub struct Looked {
     pub how: How,
     pub used: u32,
 }
 
 // What a text stands for, read through: the open variable v - 1, as word v; or the term of a record at a base.
-#[derive(Drop)]
+#[derive(Clone, Copy)]
 pub enum Value {
     Open(u32),
     At(u32, u32),
@@ -54,7 +56,7 @@ pub fn value_of(book: &[u8], made: u32, ws: &[u32], k: u32, b: u32) -> Value
 
 // Terms to look at: the targets of `count` links from `first`, whose variables begin at `base`; and after them those of `depth` runs of links
 // that wait in the workspace, `waiting` terms in all.
-#[derive(Drop)]
+#[derive(Clone, Copy)]
 pub struct ToLook {
     pub first: u32,
     pub count: u32,
@@ -64,7 +66,7 @@ pub struct ToLook {
 }
 
 // One term looked at: what is left, or nothing is, or the variable was found, or there is no room for the arguments.
-#[derive(Drop)]
+#[derive(Clone, Copy)]
 pub enum LookStep {
     On(ToLook),
     Over,
@@ -74,7 +76,7 @@ pub enum LookStep {
 
 // A record whose arguments were read already: the targets of `count` links from `first`. Most cells of a list are terms of one record,
 // and a look along the list need not wait for the book at each of them.
-#[derive(Drop)]
+#[derive(Clone, Copy)]
 pub struct Kept {
     pub rec: u32,
     pub first: u32,

@@ -2,12 +2,14 @@
 //
 // Standard input: how many cases there are; then for each one six numbers (bytes of the book, words of the workspace, bytes of the answer buffer, answers wanted,
 // the refusal's number or 0, the record) and the book. Numbers are u32, low byte first.
+#![tactic(auto)]
+
 ghost use Rattle.std.specs.Prelude.{◌≡◌, ◌+◌, ◌%◌, ◌≤◌};
 
 use book::Verdict;
 use libc::{STDIN_FILENO, STDOUT_FILENO};
 
-#[derive(Drop)]
+#[derive(Clone, Copy)]
 struct Case {
     length: u32,
     words: u32,

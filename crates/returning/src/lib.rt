@@ -1,4 +1,6 @@
 // Going back to the newest alternative, and trying the next candidate of its atom.
+#![tactic(auto)]
+
 ghost use Rattle.std.specs.Prelude.{◌≡◌, true, false, List, ℕ, ◌+◌, ◌-◌, ◌*◌, ◌/◌, ◌%◌, ◌≤◌, ◌<◌, length};
 ghost use Rattle.book.specs.Records.{field as book_field, records};
 ghost use Rattle.book.proofs.Accepted.{Accepted};
@@ -21,14 +23,14 @@ use steps::{Regs, Stepped};
 use unifier::Unified;
 
 // A clause in force: its record, and where the variables of its suppose goal's holder begin.
-#[derive(Drop)]
+#[derive(Clone, Copy)]
 pub struct InForce {
     pub clause: u32,
     pub outer: u32,
 }
 
 // The list of goals: its first cell, and the first free one.
-#[derive(Drop)]
+#[derive(Clone, Copy)]
 pub struct Front {
     pub cell: u32,
     pub cells: u32,
@@ -156,7 +158,7 @@ fn outcome(x: Back, made: u32, n: u32, l: Front, u: Unified) -> Stepped
 }
 
 // Passing over candidates: the numbers with the one that is tried next, and the candidate after it; or there is none left. With the units that it took.
-#[derive(Drop)]
+#[derive(Clone, Copy)]
 pub enum Passed {
     Next(Back, Candidate, u32),
     Through(Back, u32),
@@ -362,7 +364,7 @@ fn restored(kept: Back, n: u32) -> Regs
 
 // What a step has reached: it is done, as `Stepped` says; or after so many units a candidate is to be tried, by the numbers of alternative k, whose place is free.
 // The units stand at the same place in all three, so that the compiler keeps them in one register; a `Stepped` inside would be copied as a whole.
-#[derive(Drop)]
+#[derive(Clone, Copy)]
 pub enum Reached {
     Onward(u32, Regs),
     Finished(Ending, u32),

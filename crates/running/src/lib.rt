@@ -1,4 +1,6 @@
 // The run of an accepted call: steps and answers, one turn after another, until it ends.
+#![tactic(auto)]
+
 ghost use Rattle.std.specs.Prelude.{◌≡◌, true, false, List, [], ◌∷◌, ◌+◌, ◌≤◌, ◌<◌, length, replicate};
 ghost use Rattle.book.specs.Decode.{question_of};
 ghost use Rattle.machine.specs.Run.{Result, start as start_of};
@@ -18,14 +20,14 @@ use steps::{Regs, Stepped};
 
 // A turn of the run: it goes on, with the tally, the registers and the end of what is written; or it has ended.
 // The tally stands at the same place in both, as the units in `Stepped`.
-#[derive(Drop)]
+#[derive(Clone, Copy)]
 pub enum Turned {
     On(Tally, Regs, usize),
     Over(Ending, Tally),
 }
 
 // How a run ended, and its tally.
-#[derive(Drop)]
+#[derive(Clone, Copy)]
 pub struct Ran {
     pub ending: Ending,
     pub tally: Tally,

@@ -1,4 +1,6 @@
 // Finding candidates: along the programs in force, with a memo of what was found before, and then in the question's own run.
+#![tactic(auto)]
+
 ghost use Rattle.std.specs.Prelude.{◌≡◌, ℕ, ◌+◌, ◌-◌, ◌*◌, ◌≤◌, ◌<◌, length, List};
 ghost use Rattle.words.specs.Readable.{Readable};
 ghost use Rattle.seeking.specs.Seeking.{AllIndexed, OwnMatches, own_candidate, IsCandidate, Sought, SoughtPut};
@@ -8,7 +10,7 @@ ghost use Rattle.book.proofs.Accepted.{Formed};
 ghost use Rattle.machine.specs.Machine.{Force};
 
 // The next candidate: clause number of a program; or there is none.
-#[derive(Drop)]
+#[derive(Clone, Copy)]
 pub enum Candidate {
     At(u32, u32),
     Nothing,

@@ -1,4 +1,6 @@
 // The start of a run in the workspace, and the whole run from it.
+#![tactic(auto)]
+
 ghost use Rattle.std.specs.Prelude.{◌≡◌, length};
 ghost use Rattle.book.proofs.Accepted.{Accepted};
 ghost use Rattle.branch.specs.State.{own_run};

@@ -1,4 +1,6 @@
 // The steps of the search: the registers, what a step gives, and entering a clause.
+#![tactic(auto)]
+
 ghost use Rattle.std.specs.Prelude.{◌≡◌, ◌+◌, ◌-◌};
 ghost use Rattle.words.specs.Readable.{Readable};
 ghost use Rattle.steps.specs.Enters.{EnterReady, Enters};
@@ -8,7 +10,7 @@ use machine::Ending;
 use unifier::Unified;
 
 // The registers of the search: how much of each region is in use, and the branch in hand, if there is one.
-#[derive(Drop)]
+#[derive(Clone, Copy)]
 pub struct Regs {
     pub made: u32,
     pub trail: u32,
@@ -23,7 +25,7 @@ pub struct Regs {
 
 // What a step gives: the registers and the units that it took; or the run has ended, after so many units.
 // The units stand at the same place in both (an ending fits into the bytes before them), so that the compiler keeps them in one register.
-#[derive(Drop)]
+#[derive(Clone, Copy)]
 pub enum Stepped {
     Onward(u32, Regs),
     Finished(Ending, u32),

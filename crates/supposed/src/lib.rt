@@ -1,4 +1,6 @@
 // An index of every supposed run: which of its clauses are the ones with some head, symbol and argument count, and whether anybody supposes such a clause at all.
+#![tactic(auto)]
+
 ghost use Rattle.std.specs.Prelude.{◌≡◌, true, ◌+◌, ◌-◌, ◌*◌, ◌%◌, ◌≤◌, ◌<◌, length};
 ghost use Rattle.book.specs.Records.{field as book_field, records};
 ghost use Rattle.book.proofs.Accepted.{Formed};

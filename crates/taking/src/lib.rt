@@ -1,4 +1,6 @@
 // Taking a goal: one unit of the run; or, where plain rules lead on from it, two units for each of them.
+#![tactic(auto)]
+
 ghost use Rattle.std.specs.Prelude.{◌≡◌, true, ℕ, ◌+◌, ◌-◌, ◌*◌, ◌≤◌, ◌<◌, length, get_or, List};
 ghost use Rattle.words.specs.Readable.{Readable, HasArguments};
 ghost use Rattle.book.specs.Records.{records};
@@ -19,7 +21,7 @@ use seeking::Candidate;
 use steps::Regs;
 
 // A goal cell: the word of the goal and base in it, the goal's record and base, its program, and the next cell.
-#[derive(Drop)]
+#[derive(Clone, Copy)]
 pub struct Cell {
     pub word: u32,
     pub goal: u32,

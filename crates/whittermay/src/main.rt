@@ -1,4 +1,6 @@
 // The program: a book on standard input, its answers on standard output. All that matters is in the library: this reads, calls once and prints.
+#![tactic(auto)]
+
 ghost use Rattle.std.specs.Prelude.{◌<◌};
 
 use libc::{STDIN_FILENO, STDOUT_FILENO};

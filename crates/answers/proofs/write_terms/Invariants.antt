@@ -1,0 +1,12 @@
+use native.Mathlib.Omega.{arith}
+use borrow.Author.Rules.{rules}
+use Prim.Native.Nat.{◌-◌}
+use lib.ListN.{length}
+use Rattle.answers.proofs.TermLaws.{WriteInv, inv_start, inv_slots, inv_length, next_small, inv_done, inv_room, part_room, inv_full, inv_more}
+use Rattle.answers.proofs.write_terms.Given as goal
+
+abbrev pub invariant-loop-n : goal.invariant-loop-n
+invariant-loop-n l = WriteInv l.book l.made l.answer l.initial.ws l.initial.out l.at l.terms l.ws l.out l.n l.next l.end
+
+abbrev pub decreases-loop-n : goal.decreases-loop-n
+decreases-loop-n l = length l.initial.out - l.end

@@ -1,0 +1,6 @@
+use Rattle.engine.proofs.OpenLaws.{opened}
+use borrow.Author.Rules.{rules}
+use Rattle.engine.proofs.open_words.Goals as goal
+
+pub returns : goal.returns
+returns c = opened _ _ _ c.requires c.clear_words.ensures c.forget.ensures

@@ -1,0 +1,7 @@
+use Rattle.book.specs.Fields.{fields_fit_as}
+use borrow.Author.Rules.{rules}
+use Rattle.fields.proofs.suppose_fits.Goals as goal
+
+pub returns : goal.returns
+unfolding fields_fit_as
+returns c = cc

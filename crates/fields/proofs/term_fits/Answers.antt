@@ -1,0 +1,8 @@
+use Rattle.book.specs.Fields.{fields_fit_as}
+use borrow.Author.Rules.{rules}
+use mathlib.Core.Path.{refl}
+use Rattle.fields.proofs.term_fits.Goals as goal
+
+pub returns : goal.returns
+unfolding fields_fit_as
+returns c = rw (c.run_fits.ensures, c.zero_from_4.ensures) refl

@@ -1,0 +1,15 @@
+use native.Mathlib.Omega.{arith}
+use mathlib.Core.Path.{◌≡◌, refl, sym, ◌∙◌}
+use Prim.Native.Nat.{◌-◌, ◌≤◌, ◌<◌}
+use borrow.Author.Rules.{rules}
+use Rattle.book.specs.Records.{records, last_record}
+use Rattle.seeking.proofs.SeekOwn.{last_in}
+use Rattle.following.specs.Plain.{follow_on}
+use Rattle.following.proofs.PlainLaws.{loop_start, loop_end, loop_none, loop_one, loop_in}
+use Rattle.following.proofs.follow.Given as goal
+
+abbrev pub invariant-loop-rules : goal.invariant-loop-rules
+invariant-loop-rules l = (follow_on l.book l.g l.rules (l.most - l.rules) ≡ follow_on l.book l.goal 0 l.most) × (l.rules ≤ l.most) × (l.g < records l.book)
+
+abbrev pub decreases-loop-rules : goal.decreases-loop-rules
+decreases-loop-rules l = l.most - l.rules

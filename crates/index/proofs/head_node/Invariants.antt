@@ -1,0 +1,12 @@
+use native.Mathlib.Omega.{arith}
+use borrow.Author.Rules.{rules}
+use Prim.Native.Nat.{ℕ, ◌-◌, ◌≤◌}
+use Rattle.index.specs.Index.{Listed}
+use Rattle.index.proofs.HeadLaws.{OnList, list_begins, list_here_found, list_ends, list_goes_on, list_done}
+use Rattle.index.proofs.head_node.Given as goal
+
+abbrev pub invariant-loop-z : goal.invariant-loop-z
+invariant-loop-z l = (i : ℕ) → i ≤ l.n → Listed l.book l.first l.n i l.ws → OnList l.book l.first l.n l.f l.m i l.z
+
+abbrev pub decreases-loop-z : goal.decreases-loop-z
+decreases-loop-z l = l.n - l.z

@@ -1,0 +1,18 @@
+use mathlib.Core.Path.{◌≡◌, sym, ◌∙◌}
+use mathlib.Core.Bool.{true}
+use Prim.Native.Nat.{◌≤◌, ◌-◌}
+use native.Mathlib.Nat.{sub-zero}
+use native.Mathlib.Omega.{arith}
+use lib.Dec.{eqb}
+use borrow.Author.Rules.{rules}
+use Rattle.book.specs.Scan.{lowest_failing}
+use Rattle.book.proofs.Tests.{and_true}
+use Rattle.book.proofs.ScanLaws.{scan_end, scan_skip}
+use Rattle.pointing.specs.Marks.{once_in}
+use Rattle.pointing.proofs.all_once.Given as goal
+
+abbrev pub invariant-loop-i : goal.invariant-loop-i
+invariant-loop-i l = (l.i ≤ l.n) × (l.all ≡ true → lowest_failing 6 (once_in l.ws) l.i (l.n - l.i) ≡ lowest_failing 6 (once_in l.ws) 0 l.n)
+
+abbrev pub decreases-loop-i : goal.decreases-loop-i
+decreases-loop-i l = l.n - l.i

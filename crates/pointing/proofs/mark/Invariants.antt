@@ -1,0 +1,16 @@
+use native.Mathlib.Omega.{arith}
+use Rattle.pointing.proofs.MarkLaws.{mark_end, mark_step}
+use Rattle.pointing.specs.Marks.{bump_all}
+use Rattle.book.specs.Pointing.{all_pointers}
+use borrow.Author.Rules.{rules}
+use native.Mathlib.Nat.{sub-zero}
+use lib.ListN.{length}
+use Prim.Native.Nat.{◌≤◌, ◌-◌}
+use mathlib.Core.Path.{◌≡◌, sym, ◌∙◌, refl}
+use Rattle.pointing.proofs.mark.Given as goal
+
+abbrev pub invariant-loop-i : goal.invariant-loop-i
+invariant-loop-i l = (l.i ≤ l.n) × (length l.ws ≡ length l.initial.ws) × (bump_all (all_pointers l.book l.i (l.n - l.i)) l.ws ≡ bump_all (all_pointers l.book 0 l.n) l.initial.ws)
+
+abbrev pub decreases-loop-i : goal.decreases-loop-i
+decreases-loop-i l = l.n - l.i

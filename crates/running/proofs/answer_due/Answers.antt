@@ -1,0 +1,9 @@
+use mathlib.Core.Path.{refl}
+use Rattle.running.proofs.StepTurns.{due_hand, due_back}
+use Rattle.running.proofs.answer_due.Goals as goal
+
+pub returns-then-r : goal.returns-then-r
+returns-then-r c = due_hand _ _ c.if-r.true refl
+
+pub returns : goal.returns
+returns c = due_back _ c.if-r.false

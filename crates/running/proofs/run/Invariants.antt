@@ -1,0 +1,13 @@
+use mathlib.Core.Path.{◌≡◌, refl, sym}
+use borrow.Author.Rules.{rules}
+use lib.ListN.{length}
+use Rattle.machine.specs.Call.{run_of}
+use Rattle.running.specs.Turns.{Midway, ahead}
+use Rattle.running.proofs.RunEnds.{midway_start, run_on_lem, run_over}
+use Rattle.running.proofs.run.Given as goal
+
+abbrev pub invariant-loop-e : goal.invariant-loop-e
+invariant-loop-e l = (length l.ws ≡ length l.initial.ws) × (length l.out ≡ length l.initial.out) × Midway l.book l.unknowns l.wanted (length l.initial.out) l.budget l.ws l.out l.r l.y l.end (run_of l.book l.budget l.wanted (length l.initial.out))
+
+abbrev pub decreases-loop-e : goal.decreases-loop-e
+decreases-loop-e l = ahead l.budget l.r l.y

@@ -1,0 +1,7 @@
+use Rattle.scope.specs.Ties.{tie_run}
+use borrow.Author.Rules.{rules}
+use Rattle.scope.proofs.clause_ties.Goals as goal
+
+pub returns-then-n-eq0 : goal.returns-then-n-eq0
+unfolding tie_run
+returns-then-n-eq0 c = rw c.if-n-eq0.true

@@ -1,0 +1,16 @@
+use native.Mathlib.Omega.{arith}
+use borrow.Author.Rules.{rules}
+use mathlib.Core.Path.{◌≡◌, refl, sym, ◌∙◌}
+use mathlib.Core.List.{List}
+use Prim.Native.Nat.{ℕ, ◌+◌, ◌-◌, ◌*◌}
+use Rattle.machine.specs.Machine.{Force, candidates}
+use Rattle.branch.specs.State.{IsRest}
+use Rattle.seeking.specs.Seeking.{Standing, SoughtPut.put_here, SoughtPut.put_nowhere}
+use Rattle.seeking.proofs.SeekChain.{word_large, goal_ready, first_here, first_none, sought_as, put_as, put_at}
+use Rattle.seeking.proofs.seek_put.Given as goal
+
+abbrev pub invariant-loop-q : goal.invariant-loop-q
+invariant-loop-q l = Standing l.book l.ws l.made l.top l.q 0 × ((md tp : ℕ) (rest₀ : List Force) → IsRest l.book l.ws md tp l.p 0 rest₀ → (rest : List Force) × IsRest l.book l.ws md tp l.q 0 rest × (candidates l.f l.m rest ≡ candidates l.f l.m rest₀))
+
+abbrev pub decreases-loop-q : goal.decreases-loop-q
+decreases-loop-q l = l.q

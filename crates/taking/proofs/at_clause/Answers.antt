@@ -1,0 +1,8 @@
+use mathlib.Core.Path.{refl}
+use Rattle.taking.specs.Takes.{atom_kept}
+use borrow.Author.Rules.{rules}
+use Rattle.taking.proofs.at_clause.Goals as goal
+
+pub returns : goal.returns
+unfolding atom_kept
+returns c = rw c.flag_of.ensures refl

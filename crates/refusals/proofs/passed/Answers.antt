@@ -27,7 +27,7 @@ pub loop-i-smaller : goal.loop-i-smaller
 loop-i-smaller c = let h = c.loop-i-test.true in omega arith
 
 pub loop-i-preserved : goal.loop-i-preserved
-loop-i-preserved c = let l = c.loop-i in passed_more c.args.book.now c.args.n l.i c.requires.0 _ c.record_at.ensures c.loop-i-test.true l.invariant (c.passes.ensures (not-false _ c.if-not-passes.false))
+loop-i-preserved c = let l = c.loop-i in passed_more c.args.book.now c.args.n l.i c.requires.0 _ c.record_at.ensures c.loop-i-test.true l.invariant (c.passes.ensures c.if-not-passes.false)
 
 pub returns : goal.returns
 returns c = c.loop-i.invariant

@@ -8,15 +8,15 @@ use borrow.Author.Rules.{rules}
 use Rattle.refusals.proofs.tests.Goals as goal
 
 pub returns-then-not-room_fits : goal.returns-then-not-room_fits
-returns-then-not-room_fits c = room_refused c.args.ws.now _ _ _ (sym c.room_fits.ensures ∙ not-true _ c.if-not-room_fits.true)
+returns-then-not-room_fits c = room_refused c.args.ws.now _ _ _ (sym c.room_fits.ensures ∙ c.if-not-room_fits.true)
 
 pub book_tests-requires : goal.book_tests-requires
 book_tests-requires c = 
-    let w : length c.args.ws.now ≡ 16384 = room_words _ c.args.buffer c.args.wanted (sym c.room_fits.ensures ∙ not-false _ c.if-not-room_fits.false) in
+    let w : length c.args.ws.now ≡ 16384 = room_words _ c.args.buffer c.args.wanted (sym c.room_fits.ensures ∙ c.if-not-room_fits.false) in
     omega arith
 
 pub returns : goal.returns
 returns c = 
     
-    let x = room_taken c.args.ws.now c.args.book.now c.args.buffer c.args.wanted (sym c.room_fits.ensures ∙ not-false _ c.if-not-room_fits.false) in
+    let x = room_taken c.args.ws.now c.args.book.now c.args.buffer c.args.wanted (sym c.room_fits.ensures ∙ c.if-not-room_fits.false) in
     (c.book_tests.ensures.0 ∙ x.0, c.book_tests.ensures.1 ∙ x.1)

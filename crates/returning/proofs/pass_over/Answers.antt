@@ -33,7 +33,7 @@ pub overflow_add-result : goal.overflow_add-result
 overflow_add-result c = let I = c.loop-y.invariant in omega (arith, c.if-left-used-lt2.false, I.within)
 
 pub returns-in-Nothing : goal.returns-in-Nothing
-returns-in-Nothing c = let p = c.requires in let I = inv_sought _ _ c.loop-y.invariant c.after_next-next.ensures.memo_stays in record { pass_gives = (λ threads X. let d = c.passes.ensures (not-false _ c.if-not-passes.false) in inv_gone p.readable p.accepted.0 _ _ I (omega (arith, c.if-left-used-lt2.false)) _ refl d.0 d.1 _ c.after_next-next.ensures.next_is c.in-Nothing.is threads X); memo_stays = I.memo }
+returns-in-Nothing c = let p = c.requires in let I = inv_sought _ _ c.loop-y.invariant c.after_next-next.ensures.memo_stays in record { pass_gives = (λ threads X. let d = c.passes.ensures c.if-not-passes.false in inv_gone p.readable p.accepted.0 _ _ I (omega (arith, c.if-left-used-lt2.false)) _ refl d.0 d.1 _ c.after_next-next.ensures.next_is c.in-Nothing.is threads X); memo_stays = I.memo }
 
 pub overflow_add-used : goal.overflow_add-used
 overflow_add-used c = let I = c.loop-y.invariant in omega (arith, c.if-left-used-lt2.false, I.within, c.ranges)
@@ -42,4 +42,4 @@ pub loop-y-smaller : goal.loop-y-smaller
 loop-y-smaller c = let I = c.loop-y.invariant in omega (arith, c.if-left-used-lt2.false, I.within)
 
 pub loop-y-preserved : goal.loop-y-preserved
-loop-y-preserved c = let p = c.requires in let I = inv_sought _ _ c.loop-y.invariant c.after_next-next.ensures.memo_stays in let d = c.passes.ensures (not-false _ c.if-not-passes.false) in inv_more p.readable p.accepted.0 _ _ I (omega (arith, c.if-left-used-lt2.false)) _ refl d.0 d.1 _ c.after_next-next.ensures.next_is _ _ _ c.in-At.is c.at_place-y.ensures
+loop-y-preserved c = let p = c.requires in let I = inv_sought _ _ c.loop-y.invariant c.after_next-next.ensures.memo_stays in let d = c.passes.ensures c.if-not-passes.false in inv_more p.readable p.accepted.0 _ _ I (omega (arith, c.if-left-used-lt2.false)) _ refl d.0 d.1 _ c.after_next-next.ensures.next_is _ _ _ c.in-At.is c.at_place-y.ensures

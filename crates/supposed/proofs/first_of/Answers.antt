@@ -9,7 +9,7 @@ use Rattle.supposed.proofs.first_of.Goals as goal
 -- where the class is not marked
 pub returns-then-not-may_suppose : goal.returns-then-not-may_suppose
 returns-then-not-may_suppose c = let p = c.requires in 
-    (none_first _ _ _ _ _ p.formed.1 p.s_bound.0 p.s_bound.1 (sym c.may_suppose.ensures ∙ not-true _ c.if-not-may_suppose.true), omega arith)
+    (none_first _ _ _ _ _ p.formed.1 p.s_bound.0 p.s_bound.1 (sym c.may_suppose.ensures ∙ c.if-not-may_suppose.true), omega arith)
 
 pub first_supposed-j-requires : goal.first_supposed-j-requires
 first_supposed-j-requires c = let p = c.requires in let y = suppose_run _ p.readable p.formed.0 _ p.s_bound.0 p.s_bound.1 in

@@ -7,14 +7,6 @@ use Rattle.index.proofs.ListLaws.{code_head, link_small}
 use Rattle.index.proofs.IndexLaws.{made_list, moved_small, entered_before, entered_new}
 use Rattle.index.proofs.enter_own.Goals as goal
 
--- the link is a clause of the run
-link_least : (c : tie.After-link-or) → c.link-or.result < c.before.before.before.before.before.before.before.before.before.before.before.before.args.n
-link_least c = rw c.link-or.ensures (link_small _ _ _ c.before.before.before.before.before.before.before.before.before.before.before.before.requires.1.1.0.0)
-
--- the clause's record is below 4,096
-clause_small : (c : tie.After-link-or) → c.before.before.before.before.before.before.before.before.before.field.result < 4096
-clause_small c = let p = c.before.before.before.before.before.before.before.before.before.before.before.before.requires in rw c.before.before.before.before.before.before.before.before.before.field.ensures.0 (in_book _ p.0 _ (p.1.0 _ p.1.1.0.0).1).1
-
 pub field-c-requires : goal.field-c-requires
 field-c-requires c = let p = c.requires in record { readable = p.readable; r_bound = (p.clause_run _ p.i_lt_n.0).0; k_bound = omega arith }
 
@@ -40,19 +32,19 @@ pub returns-then-z-n : goal.returns-then-z-n
 returns-then-z-n c = entered_before _ _ _ _ _ _ _ _ c.requires.i_lt_n.3 c.requires.i_lt_n.2 c.requires.i_lt_n.0 c.requires.indexed_from (code_head _ _ _ _ _ _ _ c.field-c.ensures.0 c.field-h.ensures.0 c.field-f.ensures.0 c.field-m.ensures.0) (c.head_node-z.ensures (c.args.i + 1) (omega (arith, c.requires.i_lt_n.0)) (made_list _ _ _ _ _ _ c.requires.i_lt_n.2 (omega (arith, c.requires.i_lt_n.0)) c.requires.indexed_from)) c.if-z-n.true
 
 pub overflow_mul-ws-2 : goal.overflow_mul-ws-2
-overflow_mul-ws-2 c = omega (arith, link_least c, c.requires.i_lt_n.2)
+overflow_mul-ws-2 c = let least : c.link_or-link.result < c.args.n = rw c.link_or-link.ensures (link_small _ _ _ c.requires.i_lt_n.0) in omega (arith, least, c.requires.i_lt_n.2)
 
 pub overflow_add-ws-2 : goal.overflow_add-ws-2
-overflow_add-ws-2 c = omega (arith, link_least c, c.requires.i_lt_n.2, c.requires.i_lt_n.0)
+overflow_add-ws-2 c = let least : c.link_or-link.result < c.args.n = rw c.link_or-link.ensures (link_small _ _ _ c.requires.i_lt_n.0) in omega (arith, least, c.requires.i_lt_n.2, c.requires.i_lt_n.0)
 
 pub overflow_add-ws-3 : goal.overflow_add-ws-3
-overflow_add-ws-3 c = omega (arith, link_least c, c.requires.i_lt_n.2, c.requires.i_lt_n.0)
+overflow_add-ws-3 c = let least : c.link_or-link.result < c.args.n = rw c.link_or-link.ensures (link_small _ _ _ c.requires.i_lt_n.0) in omega (arith, least, c.requires.i_lt_n.2, c.requires.i_lt_n.0)
 
 pub overflow_mul-ws-4 : goal.overflow_mul-ws-4
-overflow_mul-ws-4 c = omega (arith, clause_small c)
+overflow_mul-ws-4 c = let small : c.field-c.result < 4096 = rw c.field-c.ensures.0 (in_book _ c.requires.readable _ (c.requires.clause_run _ c.requires.i_lt_n.0).1).1 in omega (arith, small)
 
 pub overflow_add-ws-5 : goal.overflow_add-ws-5
-overflow_add-ws-5 c = omega (arith, clause_small c, c.requires.i_lt_n.2, c.requires.i_lt_n.0)
+overflow_add-ws-5 c = let small : c.field-c.result < 4096 = rw c.field-c.ensures.0 (in_book _ c.requires.readable _ (c.requires.clause_run _ c.requires.i_lt_n.0).1).1 in omega (arith, small, c.requires.i_lt_n.2, c.requires.i_lt_n.0)
 
 pub bounds-ws-at-2 : goal.bounds-ws-at-2
 bounds-ws-at-2 c = let q = c.requires.i_lt_n in simp length-set (omega (arith, q.3, c.head_bucket.ensures.1))

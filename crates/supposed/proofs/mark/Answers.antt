@@ -6,6 +6,9 @@ use Rattle.supposed.proofs.NoteLaws.{class_unit, class_some, bit_put, mark_put, 
 use borrow.Author.Rules.{rules}
 use Rattle.supposed.proofs.mark.Goals as goal
 
+pub nonzero_div-w : goal.nonzero_div-w
+nonzero_div-w c = let s = c.args.s in omega (arith, class_unit s, class_some s)
+
 pub overflow_add-ws : goal.overflow_add-ws
 overflow_add-ws c = let a = c.args in 
     let u = class_unit a.s in

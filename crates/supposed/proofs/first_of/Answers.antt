@@ -13,7 +13,13 @@ returns-then-not-may_suppose c = let p = c.requires in
 
 pub first_supposed-j-requires : goal.first_supposed-j-requires
 first_supposed-j-requires c = let p = c.requires in let y = suppose_run _ p.readable p.formed.0 _ p.s_bound.0 p.s_bound.1 in
-    let q = p.s_bound in let t = rw (c.field-first.ensures.0, c.field-n.ensures.0) (p.readable, (y.0, ((y.1, y.2, y.3, q.2, q.3, q.4), p.formed.1.runs _ q.0 q.1))) in record { readable = t.0; clause_run = t.1.0; n_nonzero = t.1.1.0; run_indexed = t.1.1.1 }
+    let q = p.s_bound in
+    record {
+      readable = p.readable;
+      clause_run = rw (c.field-first.ensures.0, c.field-n.ensures.0) y.0;
+      n_nonzero = rw (c.field-first.ensures.0, c.field-n.ensures.0) (y.1, y.2, y.3, q.2, q.3, q.4);
+      run_indexed = rw (c.field-first.ensures.0, c.field-n.ensures.0) (p.formed.1.runs _ q.0 q.1);
+    }
 
 pub returns-then-j-n : goal.returns-then-j-n
 returns-then-j-n c = let p = c.requires in let y = suppose_run _ p.readable p.formed.0 _ p.s_bound.0 p.s_bound.1 in

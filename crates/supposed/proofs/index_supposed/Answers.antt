@@ -7,6 +7,7 @@ use lib.ListN.{length}
 use Rattle.supposed.specs.Supposed.{supposed_words}
 use Rattle.supposed.proofs.NoteWords.{in_records, supposed_ready, supposed_more, supposed_none, supposed_on, supposed_end}
 use Rattle.supposed.proofs.index_supposed.Goals as goal
+use Rattle.supposed.proofs.index_supposed.Goals.{then-field-eq7, else-field-eq7}
 
 pub overflow_cast-n : goal.overflow_cast-n
 overflow_cast-n c = omega (arith, c.requires.readable.size)
@@ -36,10 +37,11 @@ loop-s-smaller c = omega (arith, c.loop-s-test.true)
 
 pub loop-s-preserved : goal.loop-s-preserved
 loop-s-preserved c = let i = c.loop-s.invariant in 
-    ⊎_elim
-    (λ w. (omega (arith, c.loop-s-test.true), search rules, supposed_more _ _ _ _ _ c.field.ensures.0 w.0.taken w.1.ensures.0 w.2.ensures.0 _ _ _ i.2 (w.7 ∙ w.4.ensures)))
-    (λ w. (omega (arith, c.loop-s-test.true), rw w.1 i.1, supposed_on _ _ _ c.field.ensures.0 w.0.left _ _ (w.1 ∙ i.2)))
-    c.if-field-eq7.branch
+    elim c.if-field-eq7.branch [
+      then-field-eq7 w ↦
+        (omega (arith, c.loop-s-test.true), search rules, supposed_more _ _ _ _ _ c.field.ensures.0 w.if-field-eq7.true w.field-first.ensures.0 w.field-count.ensures.0 _ _ _ i.2 (w.ws-is ∙ w.index_run.ensures))
+      | else-field-eq7 w ↦ (omega (arith, c.loop-s-test.true), rw w.ws-is i.1, supposed_on _ _ _ c.field.ensures.0 w.if-field-eq7.false _ _ (w.ws-is ∙ i.2))
+    ]
 
 pub returns : goal.returns
 returns c = let i = c.loop-s.invariant in supposed_end _ _ _ _ i.0 c.loop-s-test.false i.2

@@ -1,5 +1,4 @@
 use Rattle.scope.specs.Ties.{tie_run}
-use borrow.Author.Rules.{rules}
 use Rattle.scope.proofs.clause_ties.Goals as goal
 
 pub returns-then-n-eq0 : goal.returns-then-n-eq0

@@ -1,9 +1,6 @@
-use mathlib.Core.Path.{◌≡◌, refl, sym, ◌∙◌}
-use Prim.Native.Nat.{◌≤◌, ◌-◌}
+use mathlib.Core.Path.{refl, sym, ◌∙◌}
 use native.Mathlib.Omega.{arith}
 use borrow.Author.Rules.{rules}
-use Rattle.book.specs.Scope.{is_new}
-use Rattle.scope.specs.Ties.{earlier}
 use Rattle.scope.proofs.TieLaws.{new_end, new_step, new_stop}
 use Rattle.scope.proofs.is_new.Goals as goal
 

@@ -1,10 +1,7 @@
-use mathlib.Core.Path.{◌≡◌, refl, sym, ◌∙◌}
-use Prim.Native.Nat.{◌≤◌, ◌-◌}
-use native.Mathlib.Omega.{arith}
-use borrow.Author.Rules.{rules}
+use mathlib.Core.Path.{◌≡◌}
+use Prim.Native.Nat.{◌≤◌}
 use Rattle.book.specs.Scope.{is_new}
 use Rattle.scope.specs.Ties.{earlier}
-use Rattle.scope.proofs.TieLaws.{new_end, new_step, new_stop}
 use Rattle.scope.proofs.is_new.Given as goal
 
 abbrev pub invariant-loop-i : goal.invariant-loop-i

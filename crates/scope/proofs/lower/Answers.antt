@@ -1,7 +1,6 @@
 use mathlib.Core.Path.{sym}
 use Rattle.book.specs.Scan.{lower}
 use Rattle.book.proofs.ScanLaws.{lower_first, lower_second}
-use borrow.Author.Rules.{rules}
 use Rattle.scope.proofs.lower.Goals as goal
 
 pub returns-in-Fine : goal.returns-in-Fine

@@ -3,7 +3,6 @@ use native.Mathlib.Omega.{arith}
 use Rattle.book.specs.Scan.{lower}
 use Rattle.scope.proofs.PartLaws.{own_clause_is}
 use Rattle.scope.proofs.ShapedLaws.{own_parts}
-use borrow.Author.Rules.{rules}
 use Rattle.scope.proofs.own_clause.Goals as goal
 
 pub clause_ties-ties-requires : goal.clause_ties-ties-requires
@@ -18,8 +17,7 @@ body_scope-body-requires c = let x = own_parts c.args.book.now c.requires.0 c.ar
     let r = c.requires.1 in (c.requires.0, λ f. let b = x.3 f in omega arith)
 
 pub returns : goal.returns
-returns c = 
-    
+returns c =
     let x = own_parts c.args.book.now c.requires.0 c.args.r c.args.rec c.requires.1 c.requires.2 c.requires.3 in
     let e : c.lower-3.result ≡ lower c.clause_ties-ties.result (lower c.fault-none.result (lower c.part_scope-head.result c.body_scope-body.result)) =
     c.lower-3.ensures ∙ ap (lower c.clause_ties-ties.result) (c.lower-2.ensures ∙ ap (lower c.fault-none.result) c.lower.ensures) in

@@ -1,7 +1,6 @@
 use native.Mathlib.Omega.{arith}
 use mathlib.Core.Path.{◌∙◌, ap}
 use Rattle.book.specs.Records.{record_at}
-use borrow.Author.Rules.{rules}
 use Rattle.scope.proofs.own_clause_at.Goals as goal
 
 pub record_at-requires : goal.record_at-requires

@@ -1,10 +1,10 @@
 use mathlib.Core.Path.{◌≡◌, sym, ◌∙◌, ap}
-use Prim.Native.Nat.{◌≤◌, ◌-◌, ◌+◌}
+use Prim.Native.Nat.{◌-◌, ◌+◌}
 use native.Mathlib.Omega.{arith}
 use borrow.Author.Rules.{rules}
 use Rattle.book.specs.Records.{field}
 use Rattle.book.specs.Scan.{lower}
-use Rattle.book.specs.Scope.{over_links, own_clause_scope}
+use Rattle.book.specs.Scope.{own_clause_scope}
 use Rattle.scope.proofs.PartLaws.{links_end, links_step}
 use Rattle.scope.proofs.own_clauses.Goals as goal
 
@@ -13,13 +13,12 @@ unfolding lower
 loop-l-init c = (search rules, search rules, let h : c.wide.result + c.wide-2.result - c.wide-l.result ≡ c.args.n = omega arith in rw (h, c.wide-l.ensures))
 
 pub own_clause_at-requires : goal.own_clause_at-requires
-own_clause_at-requires c = 
+own_clause_at-requires c =
     let x = c.requires.1 c.loop-l.l (omega arith) (omega arith) in
     rw c.number_at.ensures (c.requires.0, x.0, x.1)
 
 pub loop-l-preserved : goal.loop-l-preserved
-loop-l-preserved c = 
-    
+loop-l-preserved c =
     let w : c.lower-v.result ≡ lower c.loop-l.v (own_clause_scope c.args.book.now (field c.args.book.now c.loop-l.l 1)) =
     c.lower-v.ensures ∙ ap (lower c.loop-l.v) (c.own_clause_at.ensures ∙ ap (own_clause_scope c.args.book.now) c.number_at.ensures) in (
       search rules,

@@ -1,11 +1,7 @@
-use mathlib.Core.Path.{◌≡◌, sym, ◌∙◌, ap}
-use Prim.Native.Nat.{◌≤◌, ◌-◌, ◌+◌}
-use native.Mathlib.Omega.{arith}
-use borrow.Author.Rules.{rules}
-use Rattle.book.specs.Records.{field}
+use mathlib.Core.Path.{◌≡◌}
+use Prim.Native.Nat.{◌≤◌, ◌-◌}
 use Rattle.book.specs.Scan.{lower}
 use Rattle.book.specs.Scope.{over_links, own_clause_scope}
-use Rattle.scope.proofs.PartLaws.{links_end, links_step}
 use Rattle.scope.proofs.own_clauses.Given as goal
 
 abbrev pub invariant-loop-l : goal.invariant-loop-l

@@ -19,4 +19,4 @@ returns-in-8 c = rw c.in-8.is c.clause_ties.ensures
 
 pub returns-in_default : goal.returns-in_default
 unfolding own_scope
-returns-in_default c = own_none _ _ _ _ _ c.in_default.in_default-own.rest
+returns-in_default c = own_none _ _ _ _ _ (search rules)

@@ -31,4 +31,4 @@ returns-in-8 c = rw c.in-8.is (rw c.body_count.ensures at c.made-in-8.ensures)
 
 pub returns-in_default : goal.returns-in_default
 unfolding part_of
-returns-in_default c = c.made-in_default.ensures ∙ part_none _ _ _ c.in_default.in_default-own.rest
+returns-in_default c = c.made-in_default.ensures ∙ part_none _ _ _ (search rules)

@@ -1,5 +1,4 @@
 use mathlib.Core.Path.{sym}
-use borrow.Author.Rules.{rules}
 use Rattle.scope.proofs.part_scope.Goals as goal
 
 pub returns-then-is_fine : goal.returns-then-is_fine

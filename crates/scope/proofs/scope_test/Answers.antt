@@ -1,6 +1,5 @@
 use native.Mathlib.Omega.{arith}
 use Rattle.book.specs.Records.{records, last_record}
-use borrow.Author.Rules.{rules}
 use Rattle.scope.proofs.scope_test.Goals as goal
 
 pub overflow_sub-q : goal.overflow_sub-q

@@ -1,15 +1,13 @@
 use Prim.Native.Nat.{ℕ, ◌<◌}
 use mathlib.Core.Path.{ap}
-use mathlib.Core.List.{[]}
-use mathlib.Core.Path.{◌≡◌, refl, sym, ◌∙◌}
-use Prim.Native.Nat.{◌+◌, ◌≤◌, ◌-◌}
+use mathlib.Core.Path.{refl, sym, ◌∙◌}
 use native.Mathlib.Omega.{arith}
 use native.Mathlib.Nat.{sub-zero}
 use borrow.Author.Rules.{rules}
 use lib.ListN.{length, length-set}
 use Rattle.book.specs.Records.{field}
 use Rattle.book.specs.Scan.{lower}
-use Rattle.scope.specs.Ties.{earlier, tie_run}
+use Rattle.scope.specs.Ties.{earlier}
 use Rattle.scope.proofs.TieLaws.{tie_end, tie_turn}
 use Rattle.scope.proofs.tie_scope.Goals as goal
 
@@ -18,10 +16,8 @@ unfolding earlier lower
 loop-k-init c = (search rules, omega arith, refl, refl, simp sub-zero)
 
 pub loop-k-preserved : goal.loop-k-preserved
-loop-k-preserved c = 
-    
-    
-    let i = c.loop-k.invariant in 
+loop-k-preserved c =
+    let i = c.loop-k.invariant in
     let u : c.loop-k.k < length c.loop-k.owns = omega arith in
     let w : c.loop-k.k < length c.loop-k.outers = omega arith in (
       search rules,

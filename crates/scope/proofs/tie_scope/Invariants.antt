@@ -1,16 +1,9 @@
-use Prim.Native.Nat.{ℕ, ◌<◌}
-use mathlib.Core.Path.{ap}
 use mathlib.Core.List.{[]}
-use mathlib.Core.Path.{◌≡◌, refl, sym, ◌∙◌}
+use mathlib.Core.Path.{◌≡◌}
 use Prim.Native.Nat.{◌+◌, ◌≤◌, ◌-◌}
-use native.Mathlib.Omega.{arith}
-use native.Mathlib.Nat.{sub-zero}
-use borrow.Author.Rules.{rules}
-use lib.ListN.{length, length-set}
-use Rattle.book.specs.Records.{field}
+use lib.ListN.{length}
 use Rattle.book.specs.Scan.{lower}
 use Rattle.scope.specs.Ties.{earlier, tie_run}
-use Rattle.scope.proofs.TieLaws.{tie_end, tie_turn}
 use Rattle.scope.proofs.tie_scope.Given as goal
 
 abbrev pub invariant-loop-k : goal.invariant-loop-k

@@ -13,7 +13,7 @@ pub overflow_add-made : goal.overflow_add-made
 overflow_add-made c = let p = c.requires in omega (arith, (open_ready _ p.readable _ _ _ _ _ _ _ p.enter_ready _ c.field-n.ensures.0).0)
 
 pub unify-requires : goal.unify-requires
-unify-requires c = let p = c.requires in let t = (p.readable, unify_ready _ p.readable _ _ _ _ _ _ _ p.enter_ready _ _ _ _ _ _ _ _ _ c.field-n.ensures.0 c.field-first.ensures.0 c.field-t.ensures.0 c.field-h.ensures.0 c.field-m.ensures.0 c.field-from.ensures.0 c.field-other.ensures.0 c.clear_words.ensures c.put_ties.ensures) in record { readable = t.0; slots = t.1.0; good_run = t.1.1 }
+unify-requires c = let p = c.requires in let t = unify_ready _ p.readable _ _ _ _ _ _ _ p.enter_ready _ _ _ _ _ _ _ _ _ c.field-n.ensures.0 c.field-first.ensures.0 c.field-t.ensures.0 c.field-h.ensures.0 c.field-m.ensures.0 c.field-from.ensures.0 c.field-other.ensures.0 c.clear_words.ensures c.put_ties.ensures in record { readable = p.readable; slots = t.0; good_run = t.1 }
 
 pub returns : goal.returns
 returns c = let p = c.requires in entering_ends _ p.readable _ _ _ _ _ _ _ p.enter_ready _ _ _ _ _ _ _ _ _ _ _ _ c.field-n.ensures.0 c.field-first.ensures.0 c.field-t.ensures.0 c.field-h.ensures.0 c.field-m.ensures.0 c.field-from.ensures.0 c.field-other.ensures.0 c.clear_words.ensures c.put_ties.ensures c.unify.ensures

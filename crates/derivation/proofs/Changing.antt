@@ -9,7 +9,6 @@ use lib.ListN.{length}
 use Rattle.machine.specs.Term.{Term, app, sub}
 use Rattle.machine.specs.Store.{Entry, open_entry, same, bound, entry_at}
 use Rattle.machine.specs.Machine.{Force, Todo, Branch}
-use Rattle.machine.proofs.TermLaws.{size}
 use Rattle.machine.proofs.StoreLaws.{entry_past}
 use Rattle.derivation.proofs.Lists.{All, first, others, both_all}
 use Rattle.derivation.proofs.Inside.{Agree, InsideEntry, insides_same}

@@ -3,7 +3,7 @@ use mathlib.Core.Path.{◌≡◌, refl, ap, sym, ◌∙◌}
 use mathlib.Core.List.{List, [], ◌∷◌, map}
 use Prim.Native.Nat.{ℕ}
 use lib.ListN.{length, length-map}
-use Rattle.machine.specs.Term.{Term, Terms, var, app, cons, sub, subs}
+use Rattle.machine.specs.Term.{Term, Terms, var, app, cons, nil, sub, subs}
 use Rattle.machine.proofs.TermLaws.{sub_sub}
 use Rattle.derivation.specs.Demand3.{InstanceOf, renumber, Renumbered}
 use Rattle.derivation.proofs.Lists.{Some, cases, none_of}
@@ -46,6 +46,7 @@ mutual
   open_left σ v (app f ts) (within o) e = opens_left σ v ts o (cc e)
 
   opens_left : (σ : ℕ → Term) (v : ℕ) (ts : Terms) → OpenAmong v ts → subs σ ts ≡ ts → σ v ≡ var v
+  opens_left σ v nil o e = elim o [ ]
   opens_left σ v (cons t ts) (in_first o) e = open_left σ v t o (cc e)
   opens_left σ v (cons t ts) (in_others o) e = opens_left σ v ts o (cc e)
 

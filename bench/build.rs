@@ -1,4 +1,4 @@
-//! Links the proved engine where its archive has been made (`rt staticlib capi`), and says so to the code as `cfg(proved)`.
+//! Links the proved engine where its archive has been made (`./archive`, at the top of the repository), and says so to the code as `cfg(proved)`.
 
 use std::env;
 use std::path::PathBuf;

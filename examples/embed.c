@@ -1,6 +1,6 @@
 /* Reads a book from standard input and prints its reply as the program `whittermay` does: how a C program embeds the library.
  *
- *   rt staticlib capi
+ *   ./archive
  *   cc -Wall -Wextra -Iinclude examples/embed.c target/staticlib/libcapi.a -o target/embed
  *   target/embed < examples/fen.book */
 #include <stdio.h>

@@ -1,6 +1,6 @@
 /* Whittermay: answers a question from a book of rules.
  *
- * One function, in target/staticlib/libcapi.a (made by `rt staticlib capi`, for x86-64 Linux). It keeps nothing between calls, allocates nothing, reads and
+ * One function, in target/staticlib/libcapi.a (made by `./archive`, for x86-64 Linux). It keeps nothing between calls, allocates nothing, reads and
  * writes only what it is lent, and always returns. Two calls at the same time are safe if they share no workspace, buffer or reply.
  *
  * What is proved of it, in crates/capi: the six numbers of the reply, every word of the workspace and every byte of the buffer are those of the definition

@@ -1,4 +1,4 @@
-// Links the archive that `rt staticlib capi` makes. WHITTERMAY_LIB names another folder that holds libcapi.a.
+// Links the archive that `./archive` makes at the top of the repository. WHITTERMAY_LIB names another folder that holds libcapi.a.
 use std::env;
 use std::path::PathBuf;
 
@@ -10,7 +10,7 @@ fn main() {
     };
     let archive = folder.join("libcapi.a");
     if !archive.exists() {
-        panic!("there is no {}: run `rt staticlib capi` at the top of the repository first", archive.display());
+        panic!("there is no {}: run `./archive` at the top of the repository first", archive.display());
     }
     println!("cargo:rerun-if-changed={}", archive.display());
     println!("cargo:rustc-link-search=native={}", folder.display());

@@ -4,7 +4,7 @@ use borrow.Author.Rules.{rules}
 use Rattle.returning.proofs.renew.Goals as goal
 
 pub keep-requires : goal.keep-requires
-keep-requires c = let p = c.requires in let z = keep_ready _ _ _ _ _ p.to_clause.1 _ p.accepted.1 p.accepted.0 _ _ c.in-At.is in let t = rw c.at_place.ensures z in record { k_bound = t.0; made_bound = t.1.0; supposed_bound = t.1.1 }
+keep-requires c = let p = c.requires in let z = keep_ready _ _ _ _ _ p.to_clause.1 _ p.accepted.1 p.accepted.0 _ _ c.in-At.is in record { k_bound = z.0; made_bound = rw c.at_place.ensures z.1.0; supposed_bound = rw c.at_place.ensures z.1.1 }
 
 pub overflow_add-result : goal.overflow_add-result
 overflow_add-result c = omega (arith, kept_below _ _ _ _ _ c.requires.to_clause.1)

@@ -9,7 +9,7 @@ use lib.ListN.{length, get_or, set}
 use lib.Seq.{get_or-set_same, get_or-set_other}
 use Rattle.book.specs.Records.{field}
 use Rattle.book.specs.Decode.{texts_from, text_of, arguments_of}
-use Rattle.machine.specs.Term.{Term, count, instances, fills, spread}
+use Rattle.machine.specs.Term.{Term, instances, fills, spread}
 use Rattle.words.specs.Words.{base_of, term_of}
 use Rattle.words.specs.Readable.{Readable, HasArguments}
 use Rattle.words.specs.Good.{BelowAll}

@@ -1,13 +1,13 @@
 -- Entering a clause, as the machine says it.
 use mathlib.Core.Path.{◌≡◌, refl, ◌∙◌, ap}
 use mathlib.Core.List.{List, ◌∷◌}
-use Prim.Native.Nat.{ℕ, ◌+◌, ◌-◌}
+use Prim.Native.Nat.{ℕ, ◌+◌}
 use native.Mathlib.Omega.{arith}
 use borrow.Author.Tests.{le-leb}
 use lib.ListN.{length, take, length-map, length-take}
 use Rattle.book.specs.Records.{field}
 use Rattle.book.specs.Kinds.{kind_at, clause_kind}
-use Rattle.book.specs.Tree.{clause, body_of, ties_of, variables_of, head_arguments}
+use Rattle.book.specs.Tree.{body_of, ties_of, variables_of, head_arguments}
 use Rattle.book.specs.Decode.{clause_of, arguments_of, ties_from}
 use Rattle.book.proofs.Accepted.{Formed}
 use Rattle.book.proofs.Unfolding.{clause_of_lem}

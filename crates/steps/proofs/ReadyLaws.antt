@@ -3,12 +3,11 @@ use mathlib.Core.Path.{◌≡◌}
 use mathlib.Core.Logic.{inr}
 use mathlib.Core.Bool.{true}
 use mathlib.Core.List.{List}
-use Prim.Native.Nat.{ℕ, ◌+◌, ◌-◌, ◌≤◌, ◌<◌}
+use Prim.Native.Nat.{ℕ, ◌+◌, ◌≤◌, ◌<◌}
 use native.Mathlib.Omega.{arith}
 use lib.Dec.{eqb}
 use Rattle.book.specs.Records.{field, records}
 use Rattle.book.specs.Kinds.{Kind, kind_at, kind_of, atom_kind, clause_kind}
-use Rattle.book.specs.Tree.{clause, atom}
 use Rattle.book.specs.Scoped.{ScopedClause, ScopedTexts, ScopedTies, ScopedBody}
 use Rattle.book.specs.Decode.{clause_of, goal_of, arguments_of, ties_from, body_by}
 use Rattle.book.proofs.Accepted.{Accepted}

@@ -1,8 +1,5 @@
 use borrow.Author.Rules.{rules}
-use mathlib.Core.Path.{◌≡◌, refl, ◌∙◌}
-use Prim.Native.Nat.{◌≤◌, ◌-◌, ◌+◌}
-use mathlib.Core.List.{◌++◌}
-use lib.ListN.{length, replicate, drop}
+use mathlib.Core.Path.{refl, ◌∙◌}
 use borrow.Author.Fill.{fill_none, fill_more}
 use Rattle.book.proofs.FillLaws.{fill_done}
 use Rattle.answers.proofs.clear.Goals as goal

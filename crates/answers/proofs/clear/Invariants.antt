@@ -1,10 +1,7 @@
-use borrow.Author.Rules.{rules}
-use mathlib.Core.Path.{◌≡◌, refl, ◌∙◌}
-use Prim.Native.Nat.{◌≤◌, ◌-◌, ◌+◌}
+use mathlib.Core.Path.{◌≡◌}
+use Prim.Native.Nat.{◌≤◌, ◌-◌}
 use mathlib.Core.List.{◌++◌}
 use lib.ListN.{length, replicate, drop}
-use borrow.Author.Fill.{fill_none, fill_more}
-use Rattle.book.proofs.FillLaws.{fill_done}
 use Rattle.answers.proofs.clear.Given as goal
 
 abbrev pub invariant-loop-i : goal.invariant-loop-i

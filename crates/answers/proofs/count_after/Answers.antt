@@ -1,6 +1,5 @@
 use mathlib.Core.Path.{sym}
 use Rattle.answers.proofs.NumberLaws.{count_new, count_old}
-use borrow.Author.Rules.{rules}
 use Rattle.answers.proofs.count_after.Goals as goal
 
 pub returns-then-k-next : goal.returns-then-k-next

@@ -1,6 +1,5 @@
 use mathlib.Core.Path.{sym}
 use Rattle.answers.proofs.NumberLaws.{number_new, number_old}
-use borrow.Author.Rules.{rules}
 use Rattle.answers.proofs.number.Goals as goal
 
 pub returns-then-x-eq0 : goal.returns-then-x-eq0

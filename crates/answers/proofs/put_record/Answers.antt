@@ -5,7 +5,6 @@ use mathlib.Core.List.{[], ◌∷◌}
 use lib.ListN.{length-set}
 use Rattle.machine.specs.Answers.{bytes_of}
 use Rattle.answers.specs.Buffer.{record_bytes}
-use borrow.Author.Rules.{rules}
 use Rattle.answers.proofs.put_record.Goals as goal
 
 pub bounds-part-1 : goal.bounds-part-1
@@ -31,13 +30,6 @@ bounds-part-7 c = simp length-set (omega arith)
 
 pub returns : goal.returns
 unfolding record_bytes bytes_of
-returns c = let h7 = c.high-4 in 
-    
-    
-    
-    
-    
-    
-    
+returns c = let h7 = c.high-4 in
     sets-eq (c.low.result ∷ c.high.result ∷ c.low-2.result ∷ c.high-2.result ∷ c.low-3.result ∷ c.high-3.result ∷ c.low-4.result ∷ h7.result ∷ []) c.args.part.now 0 (omega arith)
     ∙ rw (c.low.ensures, c.high.ensures, c.low-2.ensures, c.high-2.ensures, c.low-3.ensures, c.high-3.ensures, c.low-4.ensures, h7.ensures) refl

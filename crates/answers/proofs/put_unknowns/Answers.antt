@@ -1,9 +1,7 @@
 use native.Mathlib.Omega.{arith}
 use borrow.Author.Rules.{rules}
-use mathlib.Core.Path.{◌≡◌, ◌∙◌}
-use Prim.Native.Nat.{◌≤◌, ◌-◌}
-use lib.ListN.{length, length-set}
-use Rattle.answers.specs.Steps.{unknown_words}
+use mathlib.Core.Path.{◌∙◌}
+use lib.ListN.{length-set}
 use Rattle.answers.proofs.ListLaws.{unknown_none, unknown_more, unknown_all}
 use Rattle.answers.proofs.put_unknowns.Goals as goal
 

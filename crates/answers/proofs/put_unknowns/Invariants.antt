@@ -1,10 +1,7 @@
-use native.Mathlib.Omega.{arith}
-use borrow.Author.Rules.{rules}
-use mathlib.Core.Path.{◌≡◌, ◌∙◌}
+use mathlib.Core.Path.{◌≡◌}
 use Prim.Native.Nat.{◌≤◌, ◌-◌}
-use lib.ListN.{length, length-set}
+use lib.ListN.{length}
 use Rattle.answers.specs.Steps.{unknown_words}
-use Rattle.answers.proofs.ListLaws.{unknown_none, unknown_more, unknown_all}
 use Rattle.answers.proofs.put_unknowns.Given as goal
 
 abbrev pub invariant-loop-i : goal.invariant-loop-i

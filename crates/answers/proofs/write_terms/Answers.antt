@@ -1,8 +1,5 @@
 use native.Mathlib.Omega.{arith}
-use borrow.Author.Rules.{rules}
-use Prim.Native.Nat.{◌-◌}
-use lib.ListN.{length}
-use Rattle.answers.proofs.TermLaws.{WriteInv, inv_start, inv_slots, inv_length, next_small, inv_done, inv_room, part_room, inv_full, inv_more}
+use Rattle.answers.proofs.TermLaws.{inv_start, inv_slots, inv_length, next_small, inv_done, inv_room, part_room, inv_full, inv_more}
 use Rattle.answers.proofs.write_terms.Goals as goal
 
 pub loop-n-init : goal.loop-n-init
@@ -24,7 +21,7 @@ pub slice_bounds-write_line-count : goal.slice_bounds-write_line-count
 slice_bounds-write_line-count c = let p = c.requires in let i = c.loop-n.invariant in omega (arith, i.inside, inv_length _ _ _ _ _ _ _ p.slots p.terms_bound.1 _ _ _ _ _ i)
 
 pub write_line-requires : goal.write_line-requires
-write_line-requires c = let p = c.requires in let t = p.terms_bound in let i = c.loop-n.invariant in 
+write_line-requires c = let p = c.requires in let t = p.terms_bound in let i = c.loop-n.invariant in
     let s = next_small _ _ _ _ _ _ _ p.slots t.1 _ _ _ _ _ i t.2 in record { readable = p.readable; slots = inv_slots _ _ _ _ _ _ _ p.slots t.1 _ _ _ _ _ i; good_words = i.words; n_nonzero = (c.loop-n-test.true, i.most, omega arith, part_room _ _ _ _ _ _ _ p.slots t.1 _ _ _ _ _ i c.if-out-end-lt8.false); by_index = (i.seen, i.numbered) }
 
 pub shape_of-ws-in-Full : goal.shape_of-ws-in-Full
@@ -34,7 +31,7 @@ pub shape_of-out-in-Full : goal.shape_of-out-in-Full
 shape_of-out-in-Full c = let p = c.requires in let i = c.loop-n.invariant in (inv_full _ _ _ _ _ _ _ p.slots p.terms_bound.1 _ _ _ _ _ i c.if-out-end-lt8.false _ _ _ c.write_line.ensures c.in-Full.is).size
 
 pub returns-in-Full : goal.returns-in-Full
-returns-in-Full c = let p = c.requires in let i = c.loop-n.invariant in 
+returns-in-Full c = let p = c.requires in let i = c.loop-n.invariant in
     inv_full _ _ _ _ _ _ _ p.slots p.terms_bound.1 _ _ _ _ _ i c.if-out-end-lt8.false _ _ _ c.write_line.ensures c.in-Full.is
 
 pub overflow_add-end : goal.overflow_add-end
@@ -44,7 +41,7 @@ pub loop-n-smaller : goal.loop-n-smaller
 loop-n-smaller c = let p = c.requires in let i = c.loop-n.invariant in omega (arith, i.inside, c.if-out-end-lt8.false, inv_length _ _ _ _ _ _ _ p.slots p.terms_bound.1 _ _ _ _ _ i)
 
 pub loop-n-preserved : goal.loop-n-preserved
-loop-n-preserved c = let p = c.requires in let i = c.loop-n.invariant in 
+loop-n-preserved c = let p = c.requires in let i = c.loop-n.invariant in
     inv_more _ _ _ _ _ _ _ p.slots p.terms_bound.1 _ _ _ _ _ i c.if-out-end-lt8.false _ _ _ _ _ c.write_line.ensures c.in-On.is
 
 pub shape_of-ws : goal.shape_of-ws

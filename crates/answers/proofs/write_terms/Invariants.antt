@@ -1,8 +1,6 @@
-use native.Mathlib.Omega.{arith}
-use borrow.Author.Rules.{rules}
 use Prim.Native.Nat.{◌-◌}
 use lib.ListN.{length}
-use Rattle.answers.proofs.TermLaws.{WriteInv, inv_start, inv_slots, inv_length, next_small, inv_done, inv_room, part_room, inv_full, inv_more}
+use Rattle.answers.proofs.TermLaws.{WriteInv}
 use Rattle.answers.proofs.write_terms.Given as goal
 
 abbrev pub invariant-loop-n : goal.invariant-loop-n

@@ -1,5 +1,4 @@
 use Rattle.branch.proofs.BackLaws.{undo_ready}
-use borrow.Author.Rules.{rules}
 use Rattle.branch.proofs.go_back.Goals as goal
 
 pub open_again-requires : goal.open_again-requires

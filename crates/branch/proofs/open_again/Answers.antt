@@ -1,9 +1,6 @@
 use native.Mathlib.Omega.{arith}
-use mathlib.Core.Path.{◌≡◌, refl, sym, ◌∙◌}
-use Prim.Native.Nat.{◌-◌, ◌≤◌}
-use lib.ListN.{length, length-set}
-use Rattle.words.specs.Frame.{undo}
-use Rattle.words.proofs.FrameLaws.{Small}
+use mathlib.Core.Path.{refl, sym, ◌∙◌}
+use lib.ListN.{length-set}
 use Rattle.branch.proofs.EntryLaws.{undo_turn, small_turn, undo_none}
 use Rattle.branch.proofs.open_again.Goals as goal
 

@@ -1,10 +1,8 @@
-use native.Mathlib.Omega.{arith}
-use mathlib.Core.Path.{◌≡◌, refl, sym, ◌∙◌}
+use mathlib.Core.Path.{◌≡◌}
 use Prim.Native.Nat.{◌-◌, ◌≤◌}
-use lib.ListN.{length, length-set}
+use lib.ListN.{length}
 use Rattle.words.specs.Frame.{undo}
 use Rattle.words.proofs.FrameLaws.{Small}
-use Rattle.branch.proofs.EntryLaws.{undo_turn, small_turn, undo_none}
 use Rattle.branch.proofs.open_again.Given as goal
 
 abbrev pub invariant-loop-i : goal.invariant-loop-i

@@ -1,9 +1,8 @@
 use native.Mathlib.Omega.{arith}
 use borrow.Author.Rules.{rules}
-use mathlib.Core.Path.{◌≡◌, refl, ◌∙◌}
-use Prim.Native.Nat.{◌+◌, ◌-◌, ◌≤◌}
-use lib.ListN.{length, length-set}
-use Rattle.branch.specs.Entries.{put_ties}
+use mathlib.Core.Path.{refl, ◌∙◌}
+use Prim.Native.Nat.{◌-◌}
+use lib.ListN.{length-set}
 use Rattle.branch.proofs.EntryLaws.{tie_at, ties_none, ties_more, ties_all}
 use Rattle.branch.proofs.put_ties.Goals as goal
 

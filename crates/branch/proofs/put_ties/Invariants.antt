@@ -1,10 +1,7 @@
-use native.Mathlib.Omega.{arith}
-use borrow.Author.Rules.{rules}
-use mathlib.Core.Path.{◌≡◌, refl, ◌∙◌}
+use mathlib.Core.Path.{◌≡◌}
 use Prim.Native.Nat.{◌+◌, ◌-◌, ◌≤◌}
-use lib.ListN.{length, length-set}
+use lib.ListN.{length}
 use Rattle.branch.specs.Entries.{put_ties}
-use Rattle.branch.proofs.EntryLaws.{tie_at, ties_none, ties_more, ties_all}
 use Rattle.branch.proofs.put_ties.Given as goal
 
 abbrev pub invariant-loop-i : goal.invariant-loop-i

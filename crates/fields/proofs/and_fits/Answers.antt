@@ -1,5 +1,4 @@
 use Rattle.book.specs.Fields.{fields_fit_as}
-use borrow.Author.Rules.{rules}
 use Rattle.fields.proofs.and_fits.Goals as goal
 
 pub returns : goal.returns

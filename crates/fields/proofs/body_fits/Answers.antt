@@ -1,6 +1,5 @@
 use borrow.Author.Tests.{eq-eqb, ne_eqb}
 use Rattle.book.specs.Fields.{body_fits}
-use borrow.Author.Rules.{rules}
 use Rattle.fields.proofs.body_fits.Goals as goal
 
 pub returns-then-flag-eq1 : goal.returns-then-flag-eq1

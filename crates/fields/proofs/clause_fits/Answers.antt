@@ -6,7 +6,6 @@ use lib.Dec.{leb, ltb, eqb}
 use Rattle.book.specs.Records.{at}
 use Rattle.book.specs.Kinds.{clause_kind}
 use Rattle.book.specs.Fields.{run_fits, body_fits, fields_fit_as}
-use borrow.Author.Rules.{rules}
 use Rattle.fields.proofs.clause_fits.Goals as goal
 
 -- what the table says of a clause, from what the calls answer

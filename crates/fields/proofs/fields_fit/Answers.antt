@@ -1,7 +1,6 @@
 use Rattle.book.specs.Kinds.{kind_of}
 use Rattle.book.specs.Fields.{fields_fit, fields_fit_as}
 use Rattle.book.proofs.KindLaws.{kind_none}
-use borrow.Author.Rules.{rules}
 use Rattle.fields.proofs.fields_fit.Goals as goal
 
 pub returns-in-1 : goal.returns-in-1

@@ -1,6 +1,5 @@
 use Rattle.book.specs.Fields.{fields_fit_as}
 use mathlib.Core.Path.{refl}
-use borrow.Author.Rules.{rules}
 use Rattle.fields.proofs.link_fits.Goals as goal
 
 pub returns : goal.returns

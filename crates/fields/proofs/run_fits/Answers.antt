@@ -1,6 +1,5 @@
 use Rattle.book.specs.Fields.{run_fits}
 use mathlib.Core.Path.{refl}
-use borrow.Author.Rules.{rules}
 use Rattle.fields.proofs.run_fits.Goals as goal
 
 pub returns : goal.returns

@@ -1,5 +1,4 @@
 use Rattle.book.specs.Fields.{fields_fit_as}
-use borrow.Author.Rules.{rules}
 use mathlib.Core.Path.{refl}
 use Rattle.fields.proofs.term_fits.Goals as goal
 

@@ -1,11 +1,7 @@
-use native.Mathlib.Omega.{arith}
-use mathlib.Core.Path.{◌≡◌, refl, sym, ◌∙◌}
+use mathlib.Core.Path.{◌≡◌}
 use Prim.Native.Nat.{◌-◌, ◌≤◌, ◌<◌}
-use borrow.Author.Rules.{rules}
-use Rattle.book.specs.Records.{records, last_record}
-use Rattle.seeking.proofs.SeekOwn.{last_in}
+use Rattle.book.specs.Records.{records}
 use Rattle.following.specs.Plain.{follow_on}
-use Rattle.following.proofs.PlainLaws.{loop_start, loop_end, loop_none, loop_one, loop_in}
 use Rattle.following.proofs.follow.Given as goal
 
 abbrev pub invariant-loop-rules : goal.invariant-loop-rules

@@ -1,7 +1,6 @@
 use native.Mathlib.Omega.{arith}
 use mathlib.Core.Path.{sym, ◌∙◌}
 use Rattle.following.proofs.PlainLaws.{run_ready, link_in, matches_here, not_atom, not_bare, none_own, two_own, one_own}
-use borrow.Author.Rules.{rules}
 use Rattle.following.proofs.plain_body.Goals as goal
 
 pub returns-then-field-ne4 : goal.returns-then-field-ne4

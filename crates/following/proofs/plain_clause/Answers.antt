@@ -1,6 +1,5 @@
 use mathlib.Core.Path.{sym, ◌∙◌}
 use Rattle.following.proofs.PlainLaws.{clause_variables, clause_bodiless, clause_plain}
-use borrow.Author.Rules.{rules}
 use Rattle.following.proofs.plain_clause.Goals as goal
 
 pub returns-then-field-ne0 : goal.returns-then-field-ne0

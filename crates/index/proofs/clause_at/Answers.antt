@@ -1,6 +1,5 @@
 use native.Mathlib.Omega.{arith}
 use Rattle.index.proofs.HeadLaws.{first_record}
-use borrow.Author.Rules.{rules}
 use Rattle.index.proofs.clause_at.Goals as goal
 
 pub returns-then-w-i : goal.returns-then-w-i

@@ -1,9 +1,6 @@
 use native.Mathlib.Omega.{arith}
 use native.Mathlib.Nat.{le_antisymm}
-use mathlib.Core.Path.{◌≡◌}
-use Prim.Native.Nat.{◌-◌, ◌≤◌}
-use lib.ListN.{length, length-set}
-use Rattle.index.specs.Index.{EmptyFrom}
+use lib.ListN.{length-set}
 use Rattle.index.proofs.IndexLaws.{empty_none, empty_more}
 use Rattle.index.proofs.empty_index.Goals as goal
 

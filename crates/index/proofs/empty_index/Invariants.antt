@@ -1,10 +1,7 @@
-use native.Mathlib.Omega.{arith}
-use native.Mathlib.Nat.{le_antisymm}
 use mathlib.Core.Path.{◌≡◌}
 use Prim.Native.Nat.{◌-◌, ◌≤◌}
-use lib.ListN.{length, length-set}
+use lib.ListN.{length}
 use Rattle.index.specs.Index.{EmptyFrom}
-use Rattle.index.proofs.IndexLaws.{empty_none, empty_more}
 use Rattle.index.proofs.empty_index.Given as goal
 
 abbrev pub invariant-loop-b : goal.invariant-loop-b

@@ -1,5 +1,4 @@
 use native.Mathlib.Omega.{arith}
-use borrow.Author.Rules.{rules}
 use Prim.Native.Nat.{◌+◌, ◌<◌}
 use lib.ListN.{length-set}
 use Rattle.words.proofs.ReadLaws.{in_book}

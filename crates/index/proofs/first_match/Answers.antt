@@ -1,5 +1,4 @@
 use native.Mathlib.Omega.{arith}
-use borrow.Author.Rules.{rules}
 use Rattle.index.proofs.HeadLaws.{start_found, none_found}
 use Rattle.index.proofs.first_match.Goals as goal
 

@@ -1,5 +1,4 @@
 use Rattle.index.proofs.RunLaws.{heads_both}
-use borrow.Author.Rules.{rules}
 use Rattle.index.proofs.head_matches.Goals as goal
 
 pub returns : goal.returns

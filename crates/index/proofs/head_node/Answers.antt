@@ -1,8 +1,6 @@
 use native.Mathlib.Omega.{arith}
 use borrow.Author.Rules.{rules}
-use Prim.Native.Nat.{ℕ, ◌-◌, ◌≤◌}
-use Rattle.index.specs.Index.{Listed}
-use Rattle.index.proofs.HeadLaws.{OnList, list_begins, list_here_found, list_ends, list_goes_on, list_done}
+use Rattle.index.proofs.HeadLaws.{list_begins, list_here_found, list_ends, list_goes_on, list_done}
 use Rattle.index.proofs.head_node.Goals as goal
 
 pub head_bucket-requires : goal.head_bucket-requires

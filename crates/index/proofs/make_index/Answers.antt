@@ -1,8 +1,6 @@
 use native.Mathlib.Omega.{arith}
 use mathlib.Core.Path.{◌≡◌, ◌∙◌}
-use Prim.Native.Nat.{◌+◌, ◌-◌, ◌≤◌}
-use lib.ListN.{length}
-use Rattle.index.specs.Index.{IndexedFrom}
+use Prim.Native.Nat.{◌+◌, ◌-◌}
 use Rattle.index.proofs.IndexLaws.{made_none, made_here, made_more, made_from}
 use Rattle.index.proofs.make_index.Goals as goal
 

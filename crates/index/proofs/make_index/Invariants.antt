@@ -1,9 +1,7 @@
-use native.Mathlib.Omega.{arith}
-use mathlib.Core.Path.{◌≡◌, ◌∙◌}
-use Prim.Native.Nat.{◌+◌, ◌-◌, ◌≤◌}
+use mathlib.Core.Path.{◌≡◌}
+use Prim.Native.Nat.{◌≤◌}
 use lib.ListN.{length}
 use Rattle.index.specs.Index.{IndexedFrom}
-use Rattle.index.proofs.IndexLaws.{made_none, made_here, made_more, made_from}
 use Rattle.index.proofs.make_index.Given as goal
 
 abbrev pub invariant-loop-i : goal.invariant-loop-i

@@ -1,4 +1,3 @@
-use borrow.Author.Rules.{rules}
 use Rattle.index.proofs.HeadLaws.{same_found}
 use Rattle.index.proofs.match_after.Goals as goal
 

@@ -1,10 +1,9 @@
 use borrow.Author.Rules.{rules}
 use native.Mathlib.Omega.{arith}
 use mathlib.Core.Path.{◌∙◌}
-use Prim.Native.Nat.{◌-◌, ◌≤◌}
 use Rattle.words.specs.Words.{rec_of, base_of}
 use Rattle.words.proofs.StackLaws.{keeps_refl, keeps_trans}
-use Rattle.looks.proofs.LookLoop.{LookInv, look_bare, inv_start, inv_slots, inv_more, inv_found, inv_full, inv_spent, inv_done, look_spent}
+use Rattle.looks.proofs.LookLoop.{look_bare, inv_start, inv_slots, inv_more, inv_found, inv_full, inv_spent, inv_done, look_spent}
 use Rattle.looks.proofs.look.Goals as goal
 
 pub returns-then-left-eq0 : goal.returns-then-left-eq0
@@ -40,7 +39,7 @@ returns-then-more-eq0 c = let p = c.requires in let i = c.loop-more.invariant.1 
 
 pub look_step-requires : goal.look_step-requires
 unfolding rec_of
-look_step-requires c = let p = c.requires in 
+look_step-requires c = let p = c.requires in
     let i = c.loop-more.invariant.1 in record { readable = p.readable; slots = inv_slots _ _ _ p.slots _ _ _ _ _ _ i; listed = i.listed; v_nonzero = (p.v_nonzero, record { start = c.field-first.ensures.0; many = c.field-m.ensures.0; some = omega (arith, c.if-m-eq0.false) }) }
 
 pub overflow_sub-result : goal.overflow_sub-result
@@ -53,7 +52,7 @@ pub shape_of-ws-in-Found : goal.shape_of-ws-in-Found
 shape_of-ws-in-Found c = c.look_step.ensures.keeps.size ∙ c.loop-more.invariant.1.keeps.size
 
 pub returns-in-Found : goal.returns-in-Found
-returns-in-Found c = let p = c.requires in 
+returns-in-Found c = let p = c.requires in
     let i = c.loop-more.invariant.1 in record { keeps = keeps_trans i.keeps c.look_step.ensures.keeps; look_went = inv_found _ _ _ p.slots _ _ _ _ _ _ i _ _ (omega (arith, c.if-more-eq0.false, c.loop-more.invariant.0)) c.look_step.ensures.look_stepped c.in-Found.is }
 
 pub overflow_sub-result-in-Full : goal.overflow_sub-result-in-Full
@@ -63,7 +62,7 @@ pub shape_of-ws-in-Full : goal.shape_of-ws-in-Full
 shape_of-ws-in-Full c = c.look_step.ensures.keeps.size ∙ c.loop-more.invariant.1.keeps.size
 
 pub returns-in-Full : goal.returns-in-Full
-returns-in-Full c = let p = c.requires in 
+returns-in-Full c = let p = c.requires in
     let i = c.loop-more.invariant.1 in record { keeps = keeps_trans i.keeps c.look_step.ensures.keeps; look_went = inv_full _ _ _ p.slots _ _ _ _ _ _ i _ _ (omega (arith, c.if-more-eq0.false, c.loop-more.invariant.0)) c.look_step.ensures.look_stepped c.in-Full.is }
 
 pub overflow_sub-result-in-Over : goal.overflow_sub-result-in-Over
@@ -76,13 +75,13 @@ pub shape_of-ws-in-Over : goal.shape_of-ws-in-Over
 shape_of-ws-in-Over c = c.look_step.ensures.keeps.size ∙ c.loop-more.invariant.1.keeps.size
 
 pub returns-in-Over : goal.returns-in-Over
-returns-in-Over c = let p = c.requires in 
+returns-in-Over c = let p = c.requires in
     let i = c.loop-more.invariant.1 in record { keeps = keeps_trans i.keeps c.look_step.ensures.keeps; look_went = inv_done _ _ _ p.slots _ _ _ _ _ _ i _ _ (omega (arith, c.if-more-eq0.false, c.loop-more.invariant.0)) c.look_step.ensures.look_stepped c.in-Over.is }
 
 pub loop-more-smaller : goal.loop-more-smaller
 loop-more-smaller c = omega (arith, c.if-more-eq0.false)
 
 pub loop-more-preserved : goal.loop-more-preserved
-loop-more-preserved c = let p = c.requires in 
-    let i = c.loop-more.invariant in 
+loop-more-preserved c = let p = c.requires in
+    let i = c.loop-more.invariant in
     (omega (arith, i.0), inv_more _ _ _ p.slots _ _ _ _ _ _ i.1 _ _ _ _ (omega (arith, i.0, c.if-more-eq0.false)) (omega (arith, i.0, c.if-more-eq0.false)) c.look_step.ensures.keeps c.look_step.ensures.look_stepped c.in-On.is)

@@ -1,10 +1,5 @@
-use borrow.Author.Rules.{rules}
-use native.Mathlib.Omega.{arith}
-use mathlib.Core.Path.{◌∙◌}
 use Prim.Native.Nat.{◌-◌, ◌≤◌}
-use Rattle.words.specs.Words.{rec_of, base_of}
-use Rattle.words.proofs.StackLaws.{keeps_refl, keeps_trans}
-use Rattle.looks.proofs.LookLoop.{LookInv, look_bare, inv_start, inv_slots, inv_more, inv_found, inv_full, inv_spent, inv_done, look_spent}
+use Rattle.looks.proofs.LookLoop.{LookInv}
 use Rattle.looks.proofs.look.Given as goal
 
 abbrev pub invariant-loop-more : goal.invariant-loop-more

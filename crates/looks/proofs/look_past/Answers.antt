@@ -1,8 +1,6 @@
 use native.Mathlib.Omega.{arith}
 use mathlib.Core.Path.{refl}
-use borrow.Author.Rules.{rules}
 use Rattle.looks.proofs.RunLaws.{deep, past_hand, past_none, pop_most, past_pop}
-use borrow.Author.Rules.{rules}
 use Rattle.looks.proofs.look_past.Goals as goal
 
 pub overflow_add-result : goal.overflow_add-result

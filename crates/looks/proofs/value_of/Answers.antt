@@ -1,7 +1,6 @@
 use native.Mathlib.Omega.{arith}
 use mathlib.Core.Path.{◌∙◌}
 use Rattle.looks.proofs.ValueLaws.{value_term, var_below, value_open, value_word}
-use borrow.Author.Rules.{rules}
 use Rattle.looks.proofs.value_of.Goals as goal
 
 pub returns-then-field-ne1 : goal.returns-then-field-ne1

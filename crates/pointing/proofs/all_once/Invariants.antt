@@ -1,13 +1,7 @@
-use mathlib.Core.Path.{◌≡◌, sym, ◌∙◌}
+use mathlib.Core.Path.{◌≡◌}
 use mathlib.Core.Bool.{true}
 use Prim.Native.Nat.{◌≤◌, ◌-◌}
-use native.Mathlib.Nat.{sub-zero}
-use native.Mathlib.Omega.{arith}
-use lib.Dec.{eqb}
-use borrow.Author.Rules.{rules}
 use Rattle.book.specs.Scan.{lowest_failing}
-use Rattle.book.proofs.Tests.{and_true}
-use Rattle.book.proofs.ScanLaws.{scan_end, scan_skip}
 use Rattle.pointing.specs.Marks.{once_in}
 use Rattle.pointing.proofs.all_once.Given as goal
 

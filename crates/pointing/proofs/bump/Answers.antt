@@ -1,6 +1,5 @@
 use mathlib.Core.Path.{sym}
 use Rattle.pointing.proofs.MarkLaws.{bump_few, bump_many}
-use borrow.Author.Rules.{rules}
 use Rattle.pointing.proofs.bump.Goals as goal
 
 pub returns-then-x-lt2 : goal.returns-then-x-lt2

@@ -2,7 +2,6 @@ use native.Mathlib.Omega.{arith}
 use borrow.Author.Tests.{eq-eqb, ne_eqb}
 use Rattle.book.specs.Pointing.{body_pointer}
 use Rattle.pointing.specs.Marks.{bump_all}
-use borrow.Author.Rules.{rules}
 use Rattle.pointing.proofs.bump_body.Goals as goal
 
 pub bump-requires : goal.bump-requires

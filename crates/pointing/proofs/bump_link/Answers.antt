@@ -1,6 +1,5 @@
 use Rattle.pointing.proofs.MarkLaws.{marks_one}
 use Rattle.book.specs.Pointing.{pointers_as}
-use borrow.Author.Rules.{rules}
 use Rattle.pointing.proofs.bump_link.Goals as goal
 
 pub returns : goal.returns

@@ -4,7 +4,6 @@ use native.Mathlib.Omega.{arith}
 use Rattle.book.specs.Kinds.{kind_of}
 use Rattle.book.specs.Pointing.{pointers, pointers_as}
 use Rattle.pointing.proofs.MarkLaws.{none_marks}
-use borrow.Author.Rules.{rules}
 use Rattle.pointing.proofs.bump_record.Goals as goal
 
 pub bump_term-requires : goal.bump_term-requires

@@ -1,10 +1,7 @@
 use Rattle.pointing.proofs.MarkLaws.{run_end, run_step}
-use Rattle.pointing.specs.Marks.{bump_all}
-use Rattle.book.specs.Records.{members}
 use borrow.Author.Rules.{rules}
 use native.Mathlib.Omega.{arith}
-use lib.ListN.{length}
-use Prim.Native.Nat.{◌≤◌, ◌-◌, ◌+◌}
+use Prim.Native.Nat.{◌-◌, ◌+◌}
 use mathlib.Core.Path.{◌≡◌, sym, ◌∙◌, refl}
 use Rattle.pointing.proofs.bump_run.Goals as goal
 

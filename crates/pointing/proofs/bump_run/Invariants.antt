@@ -1,11 +1,8 @@
-use Rattle.pointing.proofs.MarkLaws.{run_end, run_step}
 use Rattle.pointing.specs.Marks.{bump_all}
 use Rattle.book.specs.Records.{members}
-use borrow.Author.Rules.{rules}
-use native.Mathlib.Omega.{arith}
 use lib.ListN.{length}
-use Prim.Native.Nat.{◌≤◌, ◌-◌, ◌+◌}
-use mathlib.Core.Path.{◌≡◌, sym, ◌∙◌, refl}
+use Prim.Native.Nat.{◌≤◌, ◌-◌}
+use mathlib.Core.Path.{◌≡◌}
 use Rattle.pointing.proofs.bump_run.Given as goal
 
 abbrev pub invariant-loop-l : goal.invariant-loop-l

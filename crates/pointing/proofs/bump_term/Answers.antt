@@ -1,5 +1,4 @@
 use Rattle.book.specs.Pointing.{pointers_as}
-use borrow.Author.Rules.{rules}
 use Rattle.pointing.proofs.bump_term.Goals as goal
 
 pub returns : goal.returns

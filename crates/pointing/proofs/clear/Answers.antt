@@ -1,10 +1,7 @@
 use Rattle.book.proofs.FillLaws.{fill_done}
 use borrow.Author.Fill.{fill_none, fill_more}
 use borrow.Author.Rules.{rules}
-use mathlib.Core.List.{◌++◌}
-use lib.ListN.{length, replicate, drop}
-use Prim.Native.Nat.{◌≤◌, ◌-◌, ◌+◌}
-use mathlib.Core.Path.{◌≡◌, ◌∙◌, refl}
+use mathlib.Core.Path.{◌∙◌, refl}
 use Rattle.pointing.proofs.clear.Goals as goal
 
 pub loop-i-init : goal.loop-i-init

@@ -1,10 +1,7 @@
-use Rattle.book.proofs.FillLaws.{fill_done}
-use borrow.Author.Fill.{fill_none, fill_more}
-use borrow.Author.Rules.{rules}
 use mathlib.Core.List.{◌++◌}
 use lib.ListN.{length, replicate, drop}
-use Prim.Native.Nat.{◌≤◌, ◌-◌, ◌+◌}
-use mathlib.Core.Path.{◌≡◌, ◌∙◌, refl}
+use Prim.Native.Nat.{◌≤◌, ◌-◌}
+use mathlib.Core.Path.{◌≡◌}
 use Rattle.pointing.proofs.clear.Given as goal
 
 abbrev pub invariant-loop-i : goal.invariant-loop-i

@@ -1,12 +1,10 @@
 use native.Mathlib.Omega.{arith}
 use Rattle.book.proofs.ScanLaws.{scan_end, scan_skip, scan_hit}
 use Rattle.pointing.specs.Marks.{once_in}
-use Rattle.book.specs.Scan.{lowest_failing}
 use borrow.Author.Rules.{rules}
 use borrow.Author.Tests.{eq-eqb, ne_eqb}
 use native.Mathlib.Nat.{sub-zero}
-use Prim.Native.Nat.{◌≤◌, ◌-◌}
-use mathlib.Core.Path.{◌≡◌, sym, ◌∙◌}
+use mathlib.Core.Path.{sym, ◌∙◌}
 use Rattle.pointing.proofs.lowest_not_once.Goals as goal
 
 pub all_once-requires : goal.all_once-requires

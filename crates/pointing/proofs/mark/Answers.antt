@@ -1,12 +1,8 @@
 use native.Mathlib.Omega.{arith}
 use Rattle.pointing.proofs.MarkLaws.{mark_end, mark_step}
-use Rattle.pointing.specs.Marks.{bump_all}
-use Rattle.book.specs.Pointing.{all_pointers}
 use borrow.Author.Rules.{rules}
 use native.Mathlib.Nat.{sub-zero}
-use lib.ListN.{length}
-use Prim.Native.Nat.{◌≤◌, ◌-◌}
-use mathlib.Core.Path.{◌≡◌, sym, ◌∙◌, refl}
+use mathlib.Core.Path.{sym, ◌∙◌, refl}
 use Rattle.pointing.proofs.mark.Goals as goal
 
 pub loop-i-init : goal.loop-i-init
@@ -16,11 +12,11 @@ pub record_at-requires : goal.record_at-requires
 record_at-requires c = let p = c.requires.0 in let t = c.loop-i-test.true in omega arith
 
 pub bump_record-requires : goal.bump_record-requires
-bump_record-requires c = 
-    let l = c.loop-i in 
-    let t = c.loop-i-test.true in 
-    let p = c.requires.0 in 
-    let q = c.requires.1 in 
+bump_record-requires c =
+    let l = c.loop-i in
+    let t = c.loop-i-test.true in
+    let p = c.requires.0 in
+    let q = c.requires.1 in
     let k = l.invariant.1 in
     (l.i, omega arith, rw c.record_at.ensures (c.requires.2 l.i (omega arith)))
 

@@ -1,12 +1,8 @@
-use native.Mathlib.Omega.{arith}
-use Rattle.pointing.proofs.MarkLaws.{mark_end, mark_step}
 use Rattle.pointing.specs.Marks.{bump_all}
 use Rattle.book.specs.Pointing.{all_pointers}
-use borrow.Author.Rules.{rules}
-use native.Mathlib.Nat.{sub-zero}
 use lib.ListN.{length}
 use Prim.Native.Nat.{◌≤◌, ◌-◌}
-use mathlib.Core.Path.{◌≡◌, sym, ◌∙◌, refl}
+use mathlib.Core.Path.{◌≡◌}
 use Rattle.pointing.proofs.mark.Given as goal
 
 abbrev pub invariant-loop-i : goal.invariant-loop-i

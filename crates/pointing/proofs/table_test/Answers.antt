@@ -13,27 +13,26 @@ overflow_cast-n c = let a = c.requires.1 in omega arith
 
 pub mark-requires : goal.mark-requires
 unfolding records
-mark-requires c = 
+mark-requires c =
     let k : length c.clear.new.ws ≡ length c.args.ws.now = search rules in
     let p : records c.args.book.now ≤ length c.args.ws.now = c.requires.2 in
     (omega arith, omega arith, c.requires.3)
 
 pub overflow_sub-n : goal.overflow_sub-n
 unfolding records
-overflow_sub-n c = 
-    let p = c.requires.0 in 
+overflow_sub-n c =
+    let p = c.requires.0 in
     omega arith
 
 pub lowest_not_once-requires : goal.lowest_not_once-requires
 unfolding records
-lowest_not_once-requires c = 
+lowest_not_once-requires c =
     let k : length c.mark.new.ws ≡ length c.args.ws.now = search rules in
     let p : records c.args.book.now ≤ length c.args.ws.now = c.requires.2 in
     let q : records c.args.book.now ≤ 4096 = c.requires.1 in
     (omega arith, omega arith)
 
 pub returns : goal.returns
-returns c = 
-    
+returns c =
     let e = counts_here c.args.book.now c.args.ws.now _ _ c.clear.ensures c.mark.ensures in
     (c.lowest_not_once.ensures ∙ tree_by_counts c.args.book.now _ _ c.requires.2 e, e)

@@ -1,6 +1,5 @@
 use Rattle.book.specs.Records.{field}
 use mathlib.Core.Path.{refl, ◌∙◌}
-use borrow.Author.Rules.{rules}
 use Rattle.records.proofs.field.Goals as goal
 
 pub returns : goal.returns

@@ -1,7 +1,6 @@
 use native.Mathlib.Omega.{arith}
 use Rattle.book.specs.Records.{records, field}
 use mathlib.Core.Path.{refl, ◌∙◌}
-use borrow.Author.Rules.{rules}
 use Rattle.records.proofs.number_at.Goals as goal
 
 pub bounds-book-j : goal.bounds-book-j

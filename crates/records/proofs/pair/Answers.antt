@@ -1,7 +1,6 @@
 use mathlib.Core.Path.{sym, ◌∙◌}
 use Rattle.book.proofs.RecordLaws.{u16_past}
 use Rattle.records.proofs.ReadingLaws.{u16_last}
-use borrow.Author.Rules.{rules}
 use Rattle.records.proofs.pair.Goals as goal
 
 pub returns-then-k-b-2 : goal.returns-then-k-b-2

@@ -1,9 +1,8 @@
 use Rattle.records.proofs.ReadingLaws.{record_from}
-use borrow.Author.Rules.{rules}
 use Rattle.records.proofs.read_record.Goals as goal
 
 pub returns : goal.returns
-returns c = let a = c.args in 
+returns c = let a = c.args in
     record_from
     a.book.now
     a.r

@@ -2,7 +2,6 @@ use native.Mathlib.Omega.{arith}
 use Rattle.book.specs.Records.{records, record_at}
 use Rattle.records.specs.Eight.{eight_at}
 use mathlib.Core.Path.{refl, ◌∙◌}
-use borrow.Author.Rules.{rules}
 use Rattle.records.proofs.record_at.Goals as goal
 
 pub whole-requires : goal.whole-requires

@@ -1,9 +1,8 @@
 use Rattle.records.proofs.ReadingLaws.{eight_from}
-use borrow.Author.Rules.{rules}
 use Rattle.records.proofs.whole.Goals as goal
 
 pub returns : goal.returns
-returns c = 
+returns c =
     eight_from c.args.b.now c.args.k
     c.two-p.ensures
     c.two-q.ensures

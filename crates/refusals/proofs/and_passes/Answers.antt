@@ -1,7 +1,6 @@
 use Rattle.refusals.proofs.PassLaws.{never}
 use mathlib.Core.Path.{sym, ◌∙◌}
 use Rattle.targets.proofs.WithinLaws.{and_within}
-use borrow.Author.Rules.{rules}
 use Rattle.refusals.proofs.and_passes.Goals as goal
 
 pub and_targets-requires : goal.and_targets-requires

@@ -1,7 +1,6 @@
 use mathlib.Core.Path.{◌≡◌, refl, sym, ◌∙◌}
 use native.Mathlib.Omega.{arith}
 use lib.ListN.{length}
-use borrow.Author.Tests.{not-true, not-false}
 use Rattle.book.specs.Records.{records}
 use Rattle.refusals.proofs.PassLaws.{size_says, size_refused, size_taken}
 use Rattle.refusals.proofs.WordLaws.{refused_is, book_refused, book_fine}
@@ -9,7 +8,7 @@ use borrow.Author.Rules.{rules}
 use Rattle.refusals.proofs.book_tests.Goals as goal
 
 pub returns-then-not-size_fits : goal.returns-then-not-size_fits
-returns-then-not-size_fits c = 
+returns-then-not-size_fits c =
     let e = size_refused c.args.book.now (sym c.size_fits.ensures ∙ c.if-not-size_fits.true) in
     (e, book_refused c.args.book.now c.args.ws.now _ _ e _ (refused_is 2 0) refl c.clear.ensures)
 
@@ -21,15 +20,13 @@ unfolding records
 record_tests-v-requires c = (sym c.size_fits.ensures ∙ c.if-not-size_fits.false, refl, c.requires)
 
 pub returns-then-not-refuses : goal.returns-then-not-refuses
-returns-then-not-refuses c = 
-    
+returns-then-not-refuses c =
     let e = c.record_tests-v.ensures.0 ∙ size_taken _ (sym c.size_fits.ensures ∙ c.if-not-size_fits.false) in
     let f = sym c.refuses.ensures ∙ c.if-not-refuses.true in
     (e, book_fine c.args.book.now c.args.ws.now _ _ e f (c.record_tests-v.ensures.1 f))
 
 pub returns : goal.returns
-returns c = 
-    
+returns c =
     let e = c.record_tests-v.ensures.0 ∙ size_taken _ (sym c.size_fits.ensures ∙ c.if-not-size_fits.false) in
     let f = sym c.refuses.ensures ∙ c.if-not-refuses.false in
     let l : length c.record_tests-v.new.ws ≡ length c.args.ws.now = search rules in

@@ -1,7 +1,6 @@
 use Rattle.refusals.proofs.PassLaws.{never}
 use mathlib.Core.Path.{sym, ◌∙◌}
 use Rattle.targets.proofs.WithinLaws.{clause_within}
-use borrow.Author.Rules.{rules}
 use Rattle.refusals.proofs.clause_passes.Goals as goal
 
 pub clause_targets-requires : goal.clause_targets-requires

@@ -1,8 +1,6 @@
 use mathlib.Core.Path.{sym, ◌∙◌}
 use native.Mathlib.Omega.{arith}
-use borrow.Author.Tests.{not-true, not-false}
 use Rattle.refusals.proofs.PassLaws.{readable, look_past, look_four, look_kept, look_five, look_on_lem}
-use borrow.Author.Rules.{rules}
 use Rattle.refusals.proofs.look.Goals as goal
 
 pub returns-then-was-n : goal.returns-then-was-n

@@ -1,11 +1,6 @@
-use mathlib.Core.Path.{◌≡◌, sym, ◌∙◌}
-use Prim.Native.Nat.{◌≤◌, ◌-◌}
+use mathlib.Core.Path.{sym, ◌∙◌}
 use native.Mathlib.Omega.{arith}
 use borrow.Author.Rules.{rules}
-use borrow.Author.Tests.{not-true, not-false}
-use Rattle.book.specs.Scan.{lowest_failing}
-use Rattle.book.specs.Refusals.{kind_ok, kind_test}
-use Rattle.refusals.specs.Passes.{Looked}
 use Rattle.refusals.proofs.PassLaws.{kind_stops, kind_goes_on, found_four, found_five, found_none}
 use Rattle.refusals.proofs.one_pass.Goals as goal
 

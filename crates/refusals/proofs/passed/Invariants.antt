@@ -1,8 +1,5 @@
 use Prim.Native.Nat.{◌-◌}
-use native.Mathlib.Omega.{arith}
-use borrow.Author.Tests.{not-false}
 use Rattle.refusals.specs.Passes.{Passed}
-use Rattle.refusals.proofs.PassLaws.{readable, passed_first, passed_more}
 use Rattle.refusals.proofs.passed.Given as goal
 
 abbrev pub invariant-loop-i : goal.invariant-loop-i

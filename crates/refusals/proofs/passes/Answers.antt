@@ -3,7 +3,6 @@ use Rattle.book.specs.Kinds.{kind_of}
 use Rattle.book.specs.Fields.{kind_fits, fields_fit_as}
 use Rattle.book.specs.Targets.{targets_fit_as}
 use Rattle.refusals.proofs.PassLaws.{passes_as, never}
-use borrow.Author.Rules.{rules}
 use Rattle.refusals.proofs.passes.Goals as goal
 
 pub term_passes-requires : goal.term_passes-requires

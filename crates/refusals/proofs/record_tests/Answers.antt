@@ -1,11 +1,8 @@
-use mathlib.Core.Path.{◌≡◌, sym, ◌∙◌}
+use mathlib.Core.Path.{sym, ◌∙◌}
 use native.Mathlib.Omega.{arith}
-use Rattle.book.specs.declared.Verdict.TheVariants.{Fine}
 use Rattle.book.specs.Records.{records}
-use Rattle.refusals.specs.Passes.{first_tests}
 use Rattle.refusals.proofs.PassLaws.{size_says, shaped, stop_first, stop_6, stop_7}
 use Rattle.refusals.proofs.WordLaws.{refused_not_passed}
-use borrow.Author.Rules.{rules}
 use Rattle.refusals.proofs.record_tests.Goals as goal
 
 pub one_pass-requires : goal.one_pass-requires

@@ -1,6 +1,5 @@
 use mathlib.Core.Path.{sym, ap}
 use Rattle.refusals.specs.Passes.{refusing}
-use borrow.Author.Rules.{rules}
 use Rattle.refusals.proofs.refuses.Goals as goal
 
 pub returns-in-Fine : goal.returns-in-Fine

@@ -1,7 +1,6 @@
 use Rattle.refusals.proofs.PassLaws.{never}
 use mathlib.Core.Path.{sym, ◌∙◌}
 use Rattle.targets.proofs.WithinLaws.{suppose_within}
-use borrow.Author.Rules.{rules}
 use Rattle.refusals.proofs.suppose_passes.Goals as goal
 
 pub suppose_targets-requires : goal.suppose_targets-requires

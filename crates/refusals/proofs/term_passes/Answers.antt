@@ -1,7 +1,6 @@
 use mathlib.Core.Path.{sym, ◌∙◌}
 use Rattle.targets.proofs.WithinLaws.{term_within}
 use Rattle.refusals.proofs.PassLaws.{bare_passes, never}
-use borrow.Author.Rules.{rules}
 use Rattle.refusals.proofs.term_passes.Goals as goal
 
 pub returns-then-r-eq0 : goal.returns-then-r-eq0

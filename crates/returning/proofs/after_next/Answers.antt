@@ -1,7 +1,6 @@
 use native.Mathlib.Omega.{arith}
 use mathlib.Core.Path.{refl}
 use Rattle.branch.proofs.FromScoped.{own_ready}
-use borrow.Author.Rules.{rules}
 use Rattle.returning.proofs.RenewLaws.{atom_large, atom_inside, atom_few, candidate_here, next_is}
 use Rattle.returning.proofs.MemoFrames.{next_only}
 use Rattle.returning.proofs.after_next.Goals as goal

@@ -1,7 +1,6 @@
 use Rattle.returning.specs.Reaching.{ReachGives.reach_on, ReachGives.reach_end}
 use Rattle.returning.proofs.ReturnLaws.{complete}
 use Rattle.returning.proofs.BackNeeds.{back_ready, goal_memo, clause_memo, memo_done, goal_again, clause_reached}
-use borrow.Author.Rules.{rules}
 use Rattle.returning.proofs.back.Goals as goal
 
 pub returns-then-r-eq0 : goal.returns-then-r-eq0

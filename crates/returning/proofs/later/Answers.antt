@@ -1,7 +1,6 @@
 use native.Mathlib.Omega.{arith}
 use Rattle.returning.specs.Passing.{later_by}
 use mathlib.Core.Path.{refl}
-use borrow.Author.Rules.{rules}
 use Rattle.returning.proofs.later.Goals as goal
 
 pub overflow_add-result : goal.overflow_add-result

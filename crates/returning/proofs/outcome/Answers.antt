@@ -1,5 +1,4 @@
 use Rattle.returning.proofs.OutcomeLaws.{outcome_done, outcome_failed, outcome_stopped}
-use borrow.Author.Rules.{rules}
 use Rattle.returning.proofs.outcome.Goals as goal
 
 pub returns-in-Done : goal.returns-in-Done

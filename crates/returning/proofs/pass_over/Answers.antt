@@ -1,9 +1,6 @@
 use native.Mathlib.Omega.{arith}
-use borrow.Author.Rules.{rules}
-use borrow.Author.Tests.{not-false}
-use Prim.Native.Nat.{◌-◌}
 use mathlib.Core.Path.{refl}
-use Rattle.returning.proofs.PassLaws.{PassInv, inv_start, inv_memo, inv_sought, inv_more, inv_next, inv_gone}
+use Rattle.returning.proofs.PassLaws.{inv_start, inv_memo, inv_sought, inv_more, inv_next, inv_gone}
 use Rattle.branch.proofs.FromScoped.{own_ready}
 use Rattle.returning.proofs.MemoFrames.{indexed_only}
 use Rattle.returning.proofs.pass_over.Goals as goal

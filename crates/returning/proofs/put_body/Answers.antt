@@ -1,5 +1,4 @@
 use Rattle.returning.proofs.BodyLaws.{body_put, body_none}
-use borrow.Author.Rules.{rules}
 use Rattle.returning.proofs.put_body.Goals as goal
 
 pub put_cell-requires : goal.put_cell-requires

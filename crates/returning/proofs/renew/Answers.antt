@@ -1,6 +1,5 @@
 use native.Mathlib.Omega.{arith}
 use Rattle.returning.proofs.RenewLaws.{kept_below, keep_ready, renewed, dropped}
-use borrow.Author.Rules.{rules}
 use Rattle.returning.proofs.renew.Goals as goal
 
 pub keep-requires : goal.keep-requires

@@ -4,7 +4,6 @@ use mathlib.Core.Path.{refl}
 use Rattle.returning.proofs.PassLaws.{pass_some, pass_memo, pass_budget, pass_next, pass_through, through_memo}
 use Rattle.steps.proofs.RunLaws.{units_most}
 use Rattle.returning.proofs.MemoFrames.{memo_ended, memo_later}
-use borrow.Author.Rules.{rules}
 use Rattle.returning.proofs.try_all.Goals as goal
 
 pub pass_over-requires : goal.pass_over-requires
@@ -20,7 +19,7 @@ pub try_next-s-requires : goal.try_next-s-requires
 try_next-s-requires c = let p = c.requires in let s = pass_some _ p.readable p.accepted.0 _ _ _ _ _ _ c.pass_over.ensures.pass_gives c.pass_over.ensures.memo_stays _ _ _ c.in-Next.is p.to_clause in let M = pass_memo _ p.readable p.accepted.0 _ _ _ _ _ _ c.pass_over.ensures.pass_gives c.pass_over.ensures.memo_stays _ _ _ c.in-Next.is p.to_clause p.memo in record { readable = p.readable; accepted = (p.accepted.0, s.2); left_nonzero = omega (arith, c.if-left-used.false); to_clause = s.1; memo = M }
 
 pub later-requires : goal.later-requires
-later-requires c = let p = c.requires in 
+later-requires c = let p = c.requires in
     let s = pass_some _ p.readable p.accepted.0 _ _ _ _ _ _ c.pass_over.ensures.pass_gives c.pass_over.ensures.memo_stays _ _ _ c.in-Next.is p.to_clause in
     let u = units_most (c.try_next-s.ensures.tries (regs_gone c.in-Next.y 0) s.1.0 refl s.1.1) in
     omega (arith, u, s.0, c.ranges.left.fits)

@@ -1,5 +1,4 @@
 use Rattle.seeking.proofs.MemoEntries.{entry_here}
-use borrow.Author.Rules.{rules}
 use Rattle.seeking.proofs.entry_at.Goals as goal
 
 pub returns : goal.returns

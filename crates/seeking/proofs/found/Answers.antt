@@ -1,4 +1,3 @@
-use borrow.Author.Rules.{rules}
 use Rattle.seeking.proofs.SeekChain.{word_here, word_nowhere}
 use Rattle.seeking.proofs.found.Goals as goal
 

@@ -1,5 +1,4 @@
 use Rattle.seeking.proofs.MemoEntries.{rest_here}
-use borrow.Author.Rules.{rules}
 use Rattle.seeking.proofs.head_rest.Goals as goal
 
 pub returns : goal.returns

@@ -1,7 +1,6 @@
 use native.Mathlib.Omega.{arith}
 use mathlib.Core.Path.{refl}
 use Rattle.seeking.proofs.MemoEntries.{known_finds}
-use borrow.Author.Rules.{rules}
 use Rattle.seeking.proofs.known.Goals as goal
 
 pub returns-then-ws-e : goal.returns-then-ws-e

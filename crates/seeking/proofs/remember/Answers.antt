@@ -1,7 +1,6 @@
 use native.Mathlib.Omega.{arith}
 use lib.ListN.{length-set}
 use Rattle.seeking.proofs.MemoEntries.{memo_words_lem}
-use borrow.Author.Rules.{rules}
 use Rattle.seeking.proofs.remember.Goals as goal
 
 pub bounds-ws-e-2 : goal.bounds-ws-e-2

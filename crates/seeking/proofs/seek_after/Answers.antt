@@ -1,5 +1,4 @@
 use native.Mathlib.Omega.{arith}
-use borrow.Author.Rules.{rules}
 use mathlib.Core.Path.{sym, ◌∙◌}
 use Rattle.words.proofs.StackLaws.{keeps_narrow}
 use Rattle.seeking.proofs.SeekChain.{candidate_put, record_is, word_large, goal_ready, found_here, none_found, put_matches, put_as, all_same, put_at}
@@ -55,6 +54,9 @@ pub found-requires : goal.found-requires
 found-requires c = let p = c.requires in let n = p.ws_len in let K = c.seek_before-w.ensures.memo_stays.0.below in record { readable = p.readable; formed = (p.formed.0, p.formed.1, all_same _ p.formed.1 (keeps_narrow (omega arith) (omega arith) K) (keeps_narrow (omega arith) (omega arith) K) p.formed.2); ws_len = (K.size ∙ n.0, n.2, omega (arith, n.3)) }
 
 pub returns : goal.returns
-returns c = let p = c.requires in let y = c.if-p-eq0.false in let F = c.seek_before-w.ensures in record { sought = (λ rest z.
+returns c = let p = c.requires in let y = c.if-p-eq0.false in let F = c.seek_before-w.ensures in record {
+  sought = (λ rest z.
       let x = put_at (omega arith) z in
-      c.found.ensures _ _ _ rest (put_as (sym (none_found _ p.readable p.formed.0 _ _ _ _ _ rest x _ _ _ c.next_of-j.ensures.0 c.if-j-gt0.false)) (F.finds _ _ x.program (rw x.link x.before)))); memo_stays = F.memo_stays }
+      c.found.ensures _ _ _ rest (put_as (sym (none_found _ p.readable p.formed.0 _ _ _ _ _ rest x _ _ _ c.next_of-j.ensures.0 c.if-j-gt0.false)) (F.finds _ _ x.program (rw x.link x.before))));
+  memo_stays = F.memo_stays;
+}

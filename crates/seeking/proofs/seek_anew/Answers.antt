@@ -1,5 +1,4 @@
 use native.Mathlib.Omega.{arith}
-use borrow.Author.Rules.{rules}
 use Rattle.seeking.proofs.MemoEntries.{remembers_stay}
 use Rattle.seeking.proofs.SeekChain.{put_at}
 use Rattle.seeking.proofs.seek_anew.Goals as goal

@@ -1,5 +1,4 @@
 use native.Mathlib.Omega.{arith}
-use borrow.Author.Rules.{rules}
 use Rattle.seeking.proofs.SeekChain.{own_nowhere, put_at}
 use Rattle.seeking.proofs.MemoLaws.{stays_none}
 use Rattle.seeking.proofs.seek_before.Goals as goal

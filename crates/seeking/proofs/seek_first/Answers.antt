@@ -1,5 +1,4 @@
 use native.Mathlib.Omega.{arith}
-use borrow.Author.Rules.{rules}
 use mathlib.Core.Path.{◌∙◌}
 use Rattle.words.proofs.StackLaws.{keeps_narrow}
 use Rattle.seeking.proofs.SeekChain.{all_same}

@@ -1,5 +1,4 @@
 use native.Mathlib.Omega.{arith}
-use borrow.Author.Rules.{rules}
 use mathlib.Core.Path.{refl, sym, ◌∙◌}
 use Rattle.seeking.proofs.SeekChain.{own_nowhere, unmarked, put_at}
 use Rattle.seeking.proofs.MemoLaws.{stays_none}
@@ -24,5 +23,5 @@ pub returns-then-is_supposed : goal.returns-then-is_supposed
 returns-then-is_supposed c = record { finds = c.seek_anew.ensures.finds; memo_stays = c.seek_anew.ensures.memo_stays }
 
 pub returns : goal.returns
-returns c = let p = c.requires in 
+returns c = let p = c.requires in
     let e = sym c.is_supposed.ensures ∙ c.if-is_supposed.false in record { finds = (λ md tp rest z. unmarked _ p.readable p.searchable.formed _ _ _ p.searchable.indexed.supposed e _ _ _ _ rest (λ x. refl) z); memo_stays = stays_none _ _ _ }

@@ -1,11 +1,7 @@
 use native.Mathlib.Omega.{arith}
-use borrow.Author.Rules.{rules}
 use mathlib.Core.Path.{◌≡◌, refl, sym, ◌∙◌}
-use mathlib.Core.List.{List}
-use Prim.Native.Nat.{ℕ, ◌+◌, ◌-◌, ◌*◌}
-use Rattle.machine.specs.Machine.{Force, candidates}
-use Rattle.branch.specs.State.{IsRest}
-use Rattle.seeking.specs.Seeking.{Standing, SoughtPut.put_here, SoughtPut.put_nowhere}
+use Prim.Native.Nat.{◌+◌, ◌-◌, ◌*◌}
+use Rattle.seeking.specs.Seeking.{SoughtPut.put_here, SoughtPut.put_nowhere}
 use Rattle.seeking.proofs.SeekChain.{word_large, goal_ready, first_here, first_none, sought_as, put_as, put_at}
 use Rattle.seeking.proofs.seek_put.Goals as goal
 
@@ -41,7 +37,7 @@ pub overflow_add-result : goal.overflow_add-result
 overflow_add-result c = let x = put_at c.loop-q-test.true c.loop-q.invariant.0.1 in omega (arith, x.below, c.requires.searchable.few, c.first_of-j.ensures.1)
 
 pub returns-then-j-gt0 : goal.returns-then-j-gt0
-returns-then-j-gt0 c = let p = c.requires in 
+returns-then-j-gt0 c = let p = c.requires in
     let x = put_at c.loop-q-test.true c.loop-q.invariant.0.1 in (
       omega (arith, x.below, p.searchable.few, c.first_of-j.ensures.1),
       λ md tp rest₀ z.
@@ -75,7 +71,7 @@ pub loop-q-smaller-else-v-gt0 : goal.loop-q-smaller-else-v-gt0
 loop-q-smaller-else-v-gt0 c = let x = put_at c.loop-q-test.true c.loop-q.invariant.0.1 in omega (arith, x.falls, x.link)
 
 pub loop-q-preserved-else-v-gt0 : goal.loop-q-preserved-else-v-gt0
-loop-q-preserved-else-v-gt0 c = let p = c.requires in 
+loop-q-preserved-else-v-gt0 c = let p = c.requires in
     let x = put_at c.loop-q-test.true c.loop-q.invariant.0.1 in (
       (x.program, rw x.link x.before),
       λ md tp rest₀ z.
@@ -88,7 +84,7 @@ pub loop-q-smaller : goal.loop-q-smaller
 loop-q-smaller c = let x = put_at c.loop-q-test.true c.loop-q.invariant.0.1 in omega (arith, x.falls, x.link)
 
 pub loop-q-preserved : goal.loop-q-preserved
-loop-q-preserved c = let p = c.requires in 
+loop-q-preserved c = let p = c.requires in
     let x = put_at c.loop-q-test.true c.loop-q.invariant.0.1 in (
       (x.program, rw x.link x.before),
       λ md tp rest₀ z.

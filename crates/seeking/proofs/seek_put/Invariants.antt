@@ -1,12 +1,9 @@
-use native.Mathlib.Omega.{arith}
-use borrow.Author.Rules.{rules}
-use mathlib.Core.Path.{◌≡◌, refl, sym, ◌∙◌}
+use mathlib.Core.Path.{◌≡◌}
 use mathlib.Core.List.{List}
-use Prim.Native.Nat.{ℕ, ◌+◌, ◌-◌, ◌*◌}
+use Prim.Native.Nat.{ℕ}
 use Rattle.machine.specs.Machine.{Force, candidates}
 use Rattle.branch.specs.State.{IsRest}
-use Rattle.seeking.specs.Seeking.{Standing, SoughtPut.put_here, SoughtPut.put_nowhere}
-use Rattle.seeking.proofs.SeekChain.{word_large, goal_ready, first_here, first_none, sought_as, put_as, put_at}
+use Rattle.seeking.specs.Seeking.{Standing}
 use Rattle.seeking.proofs.seek_put.Given as goal
 
 abbrev pub invariant-loop-q : goal.invariant-loop-q

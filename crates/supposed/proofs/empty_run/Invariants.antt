@@ -1,11 +1,7 @@
-use native.Mathlib.Omega.{arith}
-use native.Mathlib.Nat.{le_antisymm}
-use borrow.Author.Rules.{rules}
 use mathlib.Core.Path.{◌≡◌}
 use Prim.Native.Nat.{◌-◌, ◌≤◌}
 use lib.ListN.{length}
 use Rattle.supposed.specs.Supposed.{empty_run}
-use Rattle.supposed.proofs.NoteWords.{buckets_none, buckets_more}
 use Rattle.supposed.proofs.empty_run.Given as goal
 
 abbrev pub invariant-loop-b : goal.invariant-loop-b

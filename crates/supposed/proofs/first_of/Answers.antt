@@ -1,6 +1,4 @@
-use borrow.Author.Tests.{not-true}
 use native.Mathlib.Omega.{arith}
-use borrow.Author.Rules.{rules}
 use mathlib.Core.Path.{refl, sym, ◌∙◌}
 use Rattle.index.proofs.RunLaws.{suppose_run, found_yes, found_no}
 use Rattle.supposed.proofs.SearchLaws.{none_first}
@@ -8,7 +6,7 @@ use Rattle.supposed.proofs.first_of.Goals as goal
 
 -- where the class is not marked
 pub returns-then-not-may_suppose : goal.returns-then-not-may_suppose
-returns-then-not-may_suppose c = let p = c.requires in 
+returns-then-not-may_suppose c = let p = c.requires in
     (none_first _ _ _ _ _ p.formed.1 p.s_bound.0 p.s_bound.1 (sym c.may_suppose.ensures ∙ c.if-not-may_suppose.true), omega arith)
 
 pub first_supposed-j-requires : goal.first_supposed-j-requires
@@ -23,13 +21,13 @@ first_supposed-j-requires c = let p = c.requires in let y = suppose_run _ p.read
 
 pub returns-then-j-n : goal.returns-then-j-n
 returns-then-j-n c = let p = c.requires in let y = suppose_run _ p.readable p.formed.0 _ p.s_bound.0 p.s_bound.1 in
-    let e = c.first_supposed-j.ensures in 
-    let fe = c.field-first.ensures.0 in 
-    let ne = c.field-n.ensures.0 in 
+    let e = c.first_supposed-j.ensures in
+    let fe = c.field-first.ensures.0 in
+    let ne = c.field-n.ensures.0 in
     (found_yes _ _ c.if-j-n.true ∙ rw (e, fe, ne) refl, omega (arith, c.if-j-n.true, ne, y.2))
 
 pub returns : goal.returns
-returns c = let e = c.first_supposed-j.ensures in 
-    let fe = c.field-first.ensures.0 in 
-    let ne = c.field-n.ensures.0 in 
+returns c = let e = c.first_supposed-j.ensures in
+    let fe = c.field-first.ensures.0 in
+    let ne = c.field-n.ensures.0 in
     (found_no _ _ c.if-j-n.false ∙ rw (e, fe, ne) refl, omega arith)

@@ -1,7 +1,6 @@
 use native.Mathlib.Omega.{arith}
 use mathlib.Core.Path.{◌∙◌}
 use Rattle.supposed.proofs.SearchLaws.{first_noted_bucket, first_noted_skips}
-use borrow.Author.Rules.{rules}
 use Rattle.supposed.proofs.first_supposed.Goals as goal
 
 pub supposed_along-requires : goal.supposed_along-requires

@@ -1,10 +1,5 @@
 use native.Mathlib.Omega.{arith}
 use borrow.Author.Rules.{rules}
-use mathlib.Core.Path.{◌≡◌}
-use mathlib.Core.List.{List}
-use Prim.Native.Nat.{ℕ, ◌-◌, ◌≤◌}
-use lib.ListN.{length}
-use Rattle.supposed.specs.Supposed.{empty_run, run_words}
 use Rattle.supposed.proofs.NoteWords.{run_none, run_more, run_all}
 use Rattle.supposed.proofs.index_run.Goals as goal
 
@@ -24,7 +19,7 @@ pub loop-i-smaller : goal.loop-i-smaller
 loop-i-smaller c = omega (arith, c.loop-i-test.true)
 
 pub loop-i-preserved : goal.loop-i-preserved
-loop-i-preserved c = let i = c.loop-i.invariant in 
+loop-i-preserved c = let i = c.loop-i.invariant in
     (omega (arith, i.0), search rules, λ ws₁ e. run_more _ _ _ _ ws₁ _ _ _ c.loop-i-test.true i.0 (i.2 ws₁ e) c.enter_clause.ensures)
 
 pub returns : goal.returns

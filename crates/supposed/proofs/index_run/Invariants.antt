@@ -1,11 +1,8 @@
-use native.Mathlib.Omega.{arith}
-use borrow.Author.Rules.{rules}
 use mathlib.Core.Path.{◌≡◌}
 use mathlib.Core.List.{List}
 use Prim.Native.Nat.{ℕ, ◌-◌, ◌≤◌}
 use lib.ListN.{length}
 use Rattle.supposed.specs.Supposed.{empty_run, run_words}
-use Rattle.supposed.proofs.NoteWords.{run_none, run_more, run_all}
 use Rattle.supposed.proofs.index_run.Given as goal
 
 abbrev pub invariant-loop-i : goal.invariant-loop-i

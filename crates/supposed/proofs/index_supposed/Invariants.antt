@@ -1,11 +1,7 @@
-use native.Mathlib.Omega.{arith}
-use borrow.Author.Rules.{rules}
-use mathlib.Core.Path.{◌≡◌, ◌∙◌}
-use mathlib.Core.Logic.{⊎_elim}
+use mathlib.Core.Path.{◌≡◌}
 use Prim.Native.Nat.{◌-◌, ◌/◌, ◌≤◌}
 use lib.ListN.{length}
 use Rattle.supposed.specs.Supposed.{supposed_words}
-use Rattle.supposed.proofs.NoteWords.{in_records, supposed_ready, supposed_more, supposed_none, supposed_on, supposed_end}
 use Rattle.supposed.proofs.index_supposed.Given as goal
 
 abbrev pub invariant-loop-s : goal.invariant-loop-s

@@ -1,6 +1,5 @@
 use mathlib.Core.Path.{refl}
 use Rattle.supposed.specs.Supposed.{marked}
-use borrow.Author.Rules.{rules}
 use Rattle.supposed.proofs.is_supposed.Goals as goal
 
 pub returns : goal.returns

@@ -1,6 +1,5 @@
 use mathlib.Core.Path.{refl}
 use Rattle.supposed.specs.Supposed.{marked_by}
-use borrow.Author.Rules.{rules}
 use Rattle.supposed.proofs.may_suppose.Goals as goal
 
 pub returns : goal.returns

@@ -1,5 +1,4 @@
 use native.Mathlib.Omega.{arith}
-use borrow.Author.Rules.{rules}
 use mathlib.Core.Path.{refl, ◌∙◌}
 use Rattle.index.proofs.RunLaws.{suppose_run, found_yes, found_no}
 use Prim.Native.Nat.{◌+◌}
@@ -11,9 +10,9 @@ pub overflow_add-i : goal.overflow_add-i
 overflow_add-i c = let p = c.requires in let y = suppose_run _ p.readable p.formed.0 _ p.s_bound.0 p.s_bound.1 in omega (arith, p.i_bound.0, y.2)
 
 pub returns-then-n-i : goal.returns-then-n-i
-returns-then-n-i c = let p = c.requires in 
-    let a = c.args in 
-    let ne = c.field-n.ensures.0 in 
+returns-then-n-i c = let p = c.requires in
+    let a = c.args in
+    let ne = c.field-n.ensures.0 in
     let z = next_none a.book.now a.f a.m (field a.book.now a.s 1) (a.i + 1) (field a.book.now a.s 2) (omega (arith, ne, c.if-n-i.true, p.i_bound.0)) in
     (found_no _ _ (omega (arith, z, p.i_bound.0)), omega arith)
 
@@ -30,13 +29,13 @@ supposed_after-j-requires c = let p = c.requires in let y = suppose_run _ p.read
 
 pub returns-then-j-n : goal.returns-then-j-n
 returns-then-j-n c = let p = c.requires in let y = suppose_run _ p.readable p.formed.0 _ p.s_bound.0 p.s_bound.1 in
-    let e = c.supposed_after-j.ensures in 
-    let fe = c.field-first.ensures.0 in 
-    let ne = c.field-n.ensures.0 in 
+    let e = c.supposed_after-j.ensures in
+    let fe = c.field-first.ensures.0 in
+    let ne = c.field-n.ensures.0 in
     (found_yes _ _ c.if-j-n.true ∙ rw (e, fe, ne) refl, omega (arith, c.if-j-n.true, ne, y.2))
 
 pub returns : goal.returns
-returns c = let e = c.supposed_after-j.ensures in 
-    let fe = c.field-first.ensures.0 in 
-    let ne = c.field-n.ensures.0 in 
+returns c = let e = c.supposed_after-j.ensures in
+    let fe = c.field-first.ensures.0 in
+    let ne = c.field-n.ensures.0 in
     (found_no _ _ c.if-j-n.false ∙ rw (e, fe, ne) refl, omega arith)

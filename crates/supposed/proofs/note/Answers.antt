@@ -1,8 +1,6 @@
-use Prim.Native.Nat.{ℕ, ◌+◌, ◌*◌, ◌/◌, ◌%◌, ◌^◌, ◌<◌, ◌≤◌}
+use Prim.Native.Nat.{ℕ, ◌+◌, ◌*◌, ◌/◌, ◌%◌, ◌^◌, ◌<◌}
 use native.Mathlib.Omega.{arith}
-use mathlib.Core.Path.{◌≡◌}
-use mathlib.Core.List.{List}
-use lib.ListN.{get_or, length}
+use lib.ListN.{get_or}
 use Rattle.supposed.proofs.NoteWords.{NoteFits, note_fits, note_written}
 use Rattle.supposed.proofs.note.Goals as goal
 

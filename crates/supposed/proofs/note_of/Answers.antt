@@ -1,6 +1,5 @@
 use mathlib.Core.Path.{refl}
 use Rattle.supposed.specs.Supposed.{note_of}
-use borrow.Author.Rules.{rules}
 use Rattle.supposed.proofs.note_of.Goals as goal
 
 pub returns : goal.returns

@@ -2,7 +2,6 @@ use mathlib.Core.Path.{refl}
 use Prim.Native.Nat.{◌+◌, ◌*◌, ◌%◌}
 use native.Mathlib.Omega.{arith}
 use Rattle.supposed.proofs.NoteLaws.{part_most, part_below}
-use borrow.Author.Rules.{rules}
 use Rattle.supposed.proofs.small_bucket.Goals as goal
 
 pub overflow_mul-result-3 : goal.overflow_mul-result-3

@@ -3,7 +3,6 @@ use mathlib.Core.Path.{◌∙◌}
 use Rattle.words.proofs.ReadLaws.{in_book}
 use Rattle.index.proofs.BucketLaws.{matching_bucket}
 use Rattle.supposed.proofs.SearchLaws.{noted_bucket, noted_skips}
-use borrow.Author.Rules.{rules}
 use Rattle.supposed.proofs.supposed_after.Goals as goal
 
 pub field-requires : goal.field-requires

@@ -1,13 +1,8 @@
-use native.Mathlib.Omega.{arith}
-use borrow.Author.Rules.{rules}
-use mathlib.Core.Path.{◌≡◌, refl, sym, ◌∙◌}
+use mathlib.Core.Path.{◌≡◌}
 use Prim.Native.Nat.{◌-◌}
-use Rattle.words.proofs.ReadLaws.{in_book}
 use Rattle.index.specs.Runs.{next_match}
 use Rattle.index.specs.Index.{InBucket}
 use Rattle.supposed.specs.Supposed.{small_bucket}
-use Rattle.index.proofs.RunLaws.{next_none, next_found, next_on}
-use Rattle.supposed.proofs.SearchLaws.{noted_bucket, noted_later, noted_skips}
 use Rattle.supposed.proofs.supposed_along.Given as goal
 
 abbrev pub invariant-loop-i : goal.invariant-loop-i

@@ -1,5 +1,4 @@
 use Rattle.book.specs.Targets.{targets_fit_as}
-use borrow.Author.Rules.{rules}
 use Rattle.targets.proofs.and_targets.Goals as goal
 
 pub goal_at-requires : goal.goal_at-requires

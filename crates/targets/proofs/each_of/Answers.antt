@@ -1,11 +1,8 @@
 use Rattle.targets.proofs.WithinLaws.{linked}
 use mathlib.Core.Path.{◌≡◌, sym, ◌∙◌}
-use Prim.Native.Nat.{◌≤◌, ◌-◌, ◌+◌}
+use Prim.Native.Nat.{◌-◌, ◌+◌}
 use native.Mathlib.Omega.{arith}
 use borrow.Author.Rules.{rules}
-use borrow.Author.Tests.{not-true, not-false}
-use Rattle.book.specs.Targets.{each_of}
-use Rattle.targets.specs.Members.{member_fits}
 use Rattle.book.proofs.TargetLaws.{each_end, each_skip, each_stop}
 use Rattle.targets.proofs.each_of.Goals as goal
 

@@ -1,6 +1,5 @@
 use Rattle.book.specs.Kinds.{kind_at}
 use Rattle.book.specs.Targets.{goal_at_kind}
-use borrow.Author.Rules.{rules}
 use Rattle.targets.proofs.goal_at.Goals as goal
 
 pub returns : goal.returns

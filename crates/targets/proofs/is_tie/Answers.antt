@@ -1,5 +1,4 @@
 use Rattle.book.specs.Targets.{is_tie}
-use borrow.Author.Rules.{rules}
 use Rattle.targets.proofs.is_tie.Goals as goal
 
 pub returns : goal.returns

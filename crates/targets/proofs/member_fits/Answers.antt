@@ -1,4 +1,3 @@
-use borrow.Author.Rules.{rules}
 use Rattle.targets.proofs.member_fits.Goals as goal
 
 pub argument_link-requires : goal.argument_link-requires

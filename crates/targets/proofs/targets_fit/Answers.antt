@@ -5,7 +5,6 @@ use Rattle.book.specs.Kinds.{kind_of}
 use Rattle.book.specs.Targets.{targets_fit, targets_fit_as}
 use mathlib.Core.Path.{sym}
 use Rattle.book.proofs.TargetLaws.{targets_none}
-use borrow.Author.Rules.{rules}
 use Rattle.targets.proofs.targets_fit.Goals as goal
 
 pub term_targets-requires : goal.term_targets-requires

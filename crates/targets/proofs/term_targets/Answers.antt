@@ -1,5 +1,4 @@
 use Rattle.book.specs.Targets.{targets_fit_as}
-use borrow.Author.Rules.{rules}
 use Rattle.targets.proofs.term_targets.Goals as goal
 
 pub each_of-requires : goal.each_of-requires

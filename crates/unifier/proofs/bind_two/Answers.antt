@@ -1,6 +1,5 @@
 use borrow.Author.Tests.{lt-ltb, le-ltb}
 use Rattle.unifier.specs.Pairs.{bind_two}
-use borrow.Author.Rules.{rules}
 use Rattle.unifier.proofs.bind_two.Goals as goal
 
 pub returns-then-x-y : goal.returns-then-x-y

@@ -1,6 +1,5 @@
 use native.Mathlib.Omega.{arith}
 use Rattle.unifier.proofs.TurnLaws.{bind_room, kept_after, kept_bound, look_done, look_failed, look_stopped}
-use borrow.Author.Rules.{rules}
 use Rattle.unifier.proofs.look_bind.Goals as goal
 
 pub bind-requires : goal.bind-requires

@@ -1,7 +1,6 @@
 use native.Mathlib.Omega.{arith}
 use mathlib.Core.Path.{refl}
 use Rattle.unifier.proofs.PairPlaces.{deep, past_hand, past_none, pop_most, past_pop}
-use borrow.Author.Rules.{rules}
 use Rattle.unifier.proofs.pair_past.Goals as goal
 
 pub returns-then-s-gt1 : goal.returns-then-s-gt1

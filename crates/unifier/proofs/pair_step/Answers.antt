@@ -3,7 +3,6 @@ use Rattle.words.proofs.ReadLaws.{in_book}
 use Rattle.looks.proofs.RunLaws.{run_here}
 use Rattle.looks.proofs.ValueLaws.{known_open, known_term}
 use Rattle.unifier.proofs.PairSteps.{step_same, step_look, step_look', two_ready, step_two, step_terms}
-use borrow.Author.Rules.{rules}
 use Rattle.unifier.proofs.pair_step.Goals as goal
 
 pub value_of-requires : goal.value_of-requires

@@ -1,7 +1,6 @@
 use native.Mathlib.Omega.{arith}
 use mathlib.Core.List.{[]}
 use Rattle.unifier.proofs.TurnLaws.{turn_into, past_ready, turn_past, turn_apart, turn_full, turn_ready, looked_ready, looked_done, looked_failed, looked_stopped, ends_most}
-use borrow.Author.Rules.{rules}
 use Rattle.unifier.proofs.turn.Goals as goal
 
 pub pair_past-requires : goal.pair_past-requires

@@ -1,9 +1,6 @@
-use native.Mathlib.Omega.{arith}
-use borrow.Author.Rules.{rules}
-use mathlib.Core.Path.{refl}
 use Prim.Native.Nat.{◌-◌, ◌≤◌, ◌<◌}
 use Rattle.unifier.specs.Pairs.{at_runs}
-use Rattle.unifier.proofs.TurnLaws.{UnifyInv, unify_start, unify_over, unify_on, unify_again, unify_spent, unify_end, ends_most}
+use Rattle.unifier.proofs.TurnLaws.{UnifyInv}
 use Rattle.unifier.proofs.unify.Given as goal
 
 abbrev pub invariant-loop-more : goal.invariant-loop-more

@@ -2,7 +2,6 @@ use native.Mathlib.Omega.{arith}
 use mathlib.Core.Path.{refl}
 use lib.ListN.{length-set}
 use Rattle.words.specs.Words.{bind_words}
-use borrow.Author.Rules.{rules}
 use Rattle.words.proofs.bind.Goals as goal
 
 pub bounds-ws-n : goal.bounds-ws-n

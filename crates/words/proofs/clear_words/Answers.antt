@@ -1,9 +1,7 @@
 use native.Mathlib.Nat.{le_antisymm}
 use native.Mathlib.Omega.{arith}
-use mathlib.Core.Path.{◌≡◌, refl, ◌∙◌}
-use Prim.Native.Nat.{◌-◌, ◌≤◌}
-use lib.ListN.{length, length-set}
-use Rattle.words.specs.Frame.{clear_words}
+use mathlib.Core.Path.{refl, ◌∙◌}
+use lib.ListN.{length-set}
 use Rattle.words.proofs.ClearLaws.{clear_none, clear_more}
 use Rattle.words.proofs.clear_words.Goals as goal
 

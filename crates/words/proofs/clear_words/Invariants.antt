@@ -1,10 +1,7 @@
-use native.Mathlib.Nat.{le_antisymm}
-use native.Mathlib.Omega.{arith}
-use mathlib.Core.Path.{◌≡◌, refl, ◌∙◌}
+use mathlib.Core.Path.{◌≡◌}
 use Prim.Native.Nat.{◌-◌, ◌≤◌}
-use lib.ListN.{length, length-set}
+use lib.ListN.{length}
 use Rattle.words.specs.Frame.{clear_words}
-use Rattle.words.proofs.ClearLaws.{clear_none, clear_more}
 use Rattle.words.proofs.clear_words.Given as goal
 
 abbrev pub invariant-loop-i : goal.invariant-loop-i

@@ -1,6 +1,5 @@
 use native.Mathlib.Omega.{arith}
 use Rattle.words.proofs.ReadLaws.{in_book, four_low}
-use borrow.Author.Rules.{rules}
 use Rattle.words.proofs.field.Goals as goal
 
 pub overflow_mul-r : goal.overflow_mul-r

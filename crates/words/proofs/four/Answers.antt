@@ -1,5 +1,4 @@
 use Rattle.words.proofs.ReadLaws.{four_bytes}
-use borrow.Author.Rules.{rules}
 use Rattle.words.proofs.four.Goals as goal
 
 pub returns : goal.returns

@@ -1,9 +1,7 @@
 use native.Mathlib.Omega.{arith}
 use borrow.Author.Rules.{rules}
-use mathlib.Core.Path.{◌≡◌, refl, ◌∙◌}
-use Prim.Native.Nat.{◌+◌, ◌-◌, ◌≤◌}
-use lib.ListN.{length, length-set}
-use Rattle.words.specs.Words.{push_terms}
+use mathlib.Core.Path.{refl, ◌∙◌}
+use lib.ListN.{length-set}
 use Rattle.words.proofs.ReadLaws.{link_at, target_at, push_none, push_more, push_all}
 use Rattle.words.proofs.push_terms.Goals as goal
 

@@ -1,10 +1,7 @@
-use native.Mathlib.Omega.{arith}
-use borrow.Author.Rules.{rules}
-use mathlib.Core.Path.{◌≡◌, refl, ◌∙◌}
+use mathlib.Core.Path.{◌≡◌}
 use Prim.Native.Nat.{◌+◌, ◌-◌, ◌≤◌}
-use lib.ListN.{length, length-set}
+use lib.ListN.{length}
 use Rattle.words.specs.Words.{push_terms}
-use Rattle.words.proofs.ReadLaws.{link_at, target_at, push_none, push_more, push_all}
 use Rattle.words.proofs.push_terms.Given as goal
 
 abbrev pub invariant-loop-i : goal.invariant-loop-i

@@ -1,9 +1,5 @@
 use native.Mathlib.Omega.{arith}
-use borrow.Author.Rules.{rules}
-use mathlib.Core.Path.{◌≡◌, refl}
-use Prim.Native.Nat.{◌+◌, ◌<◌}
-use Rattle.machine.specs.Store.{walk}
-use Rattle.words.specs.Words.{term_w, store_of}
+use mathlib.Core.Path.{refl}
 use Rattle.words.proofs.SlotLaws.{variable_open, variable_term, variable_on}
 use Rattle.words.proofs.read_variable.Goals as goal
 
@@ -29,7 +25,7 @@ pub loop-made-smaller : goal.loop-made-smaller
 loop-made-smaller c = let p = c.requires in let i = c.loop-made.invariant in (variable_on _ p.readable _ _ p.slots _ _ i.0 i.1 c.if-x-eq0.false (omega (arith, c.if-x-ge4096.false))).0
 
 pub loop-made-preserved : goal.loop-made-preserved
-loop-made-preserved c = let p = c.requires in 
-    let i = c.loop-made.invariant in 
+loop-made-preserved c = let p = c.requires in
+    let i = c.loop-made.invariant in
     let o = variable_on _ p.readable _ _ p.slots _ _ i.0 i.1 c.if-x-eq0.false (omega (arith, c.if-x-ge4096.false)) in
     (omega (arith, o.0, i.0), o.1)

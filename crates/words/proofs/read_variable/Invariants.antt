@@ -1,10 +1,7 @@
-use native.Mathlib.Omega.{arith}
-use borrow.Author.Rules.{rules}
-use mathlib.Core.Path.{◌≡◌, refl}
+use mathlib.Core.Path.{◌≡◌}
 use Prim.Native.Nat.{◌+◌, ◌<◌}
 use Rattle.machine.specs.Store.{walk}
 use Rattle.words.specs.Words.{term_w, store_of}
-use Rattle.words.proofs.SlotLaws.{variable_open, variable_term, variable_on}
 use Rattle.words.proofs.read_variable.Given as goal
 
 abbrev pub invariant-loop-made : goal.invariant-loop-made

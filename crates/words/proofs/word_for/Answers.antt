@@ -1,7 +1,6 @@
 use native.Mathlib.Omega.{arith}
 use mathlib.Core.Path.{refl, sym, ◌∙◌}
 use Rattle.words.proofs.ReadLaws.{in_book, word_for_var, word_for_term}
-use borrow.Author.Rules.{rules}
 use Rattle.words.proofs.word_for.Goals as goal
 
 pub returns-then-kind-eq1 : goal.returns-then-kind-eq1

@@ -1,69 +1,78 @@
 // What the program prints.
-use libc::STDOUT_FILENO;
+use std::io;
 
-pub(crate) fn say(text: &[u8]) {
-    io::write_all(STDOUT_FILENO, text);
+pub(crate) fn say(rt: &impl Print, text: &str) -> io::Result<()> {
+    print!(rt; "{text}")
 }
 
-fn number(n: u32) {
-    io::print_decimal(STDOUT_FILENO, n as u64);
+fn number(rt: &impl Print, n: u32) -> io::Result<()> {
+    print!(rt; "{n}")
 }
 
-pub(crate) fn place(n: usize) {
-    io::print_decimal(STDOUT_FILENO, n as u64);
+pub(crate) fn place(rt: &impl Print, n: usize) -> io::Result<()> {
+    print!(rt; "{n}")
 }
 
-fn six(r: [u32; 6]) {
+fn six(rt: &impl Print, r: [u32; 6]) -> io::Result<()> {
     let mut i = 0;
     while i < 6 {
-        say(b" ");
-        number(r[i]);
+        say(rt, " ")?;
+        number(rt, r[i])?;
         i += 1;
     }
+    Ok(())
 }
 
 // Case number `at` is wrong: the reply, the reply wanted, and the first word and byte that are wrong.
-pub(crate) fn detail(at: usize, reply: [u32; 6], want: [u32; 6], w: usize, b: usize) {
-    say(b"case ");
-    place(at);
-    say(b": reply");
-    six(reply);
-    say(b", wanted");
-    six(want);
-    say(b"; right up to word ");
-    place(w);
-    say(b" and byte ");
-    place(b);
-    say(b"\n");
+pub(crate) fn detail(
+    rt: &impl Print,
+    at: usize,
+    reply: [u32; 6],
+    want: [u32; 6],
+    w: usize,
+    b: usize,
+) -> io::Result<()> {
+    say(rt, "case ")?;
+    place(rt, at)?;
+    say(rt, ": reply")?;
+    six(rt, reply)?;
+    say(rt, ", wanted")?;
+    six(rt, want)?;
+    say(rt, "; right up to word ")?;
+    place(rt, w)?;
+    say(rt, " and byte ")?;
+    place(rt, b)?;
+    say(rt, "\n")
 }
 
-pub(crate) fn counted(seen: u32, wrong: u32) {
-    say(b": ");
-    number(seen);
-    say(b" cases, ");
-    number(wrong);
-    say(b" wrong\n");
+pub(crate) fn counted(rt: &impl Print, seen: u32, wrong: u32) -> io::Result<()> {
+    say(rt, ": ")?;
+    number(rt, seen)?;
+    say(rt, " cases, ")?;
+    number(rt, wrong)?;
+    say(rt, " wrong\n")
 }
 
 // The line of a group that has cases.
-fn group_line(g: usize, seen: u32, wrong: u32) {
+fn group_line(rt: &impl Print, g: usize, seen: u32, wrong: u32) -> io::Result<()> {
     if seen == 0 {
-        return;
+        return Ok(());
     }
     if g < 7 {
-        say(b"  ending ");
-        place(g);
+        say(rt, "  ending ")?;
+        place(rt, g)?;
     } else {
-        say(b"  refusal ");
-        place(g - 6);
+        say(rt, "  refusal ")?;
+        place(rt, g - 6)?;
     }
-    counted(seen, wrong);
+    counted(rt, seen, wrong)
 }
 
-pub(crate) fn groups(seen: [u32; 14], wrong: [u32; 14]) {
+pub(crate) fn groups(rt: &impl Print, seen: [u32; 14], wrong: [u32; 14]) -> io::Result<()> {
     let mut g = 0;
     while g < 14 {
-        group_line(g, seen[g], wrong[g]);
+        group_line(rt, g, seen[g], wrong[g])?;
         g += 1;
     }
+    Ok(())
 }

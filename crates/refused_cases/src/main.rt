@@ -4,10 +4,11 @@
 // the refusal's number or 0, the record) and the book. Numbers are u32, low byte first.
 #![tactic(auto)]
 
-ghost use Rattle.std.specs.Prelude.{◌≡◌, ◌+◌, ◌%◌, ◌≤◌};
+ghost use Rattle.std.specs.Prelude.{◌≡◌, ◌+◌, ◌%◌, ◌≤◌, length, IfOk};
 
 use book::Verdict;
-use libc::{STDIN_FILENO, STDOUT_FILENO};
+use std::io;
+use std::io::Read;
 
 #[derive(Clone, Copy)]
 struct Case {
@@ -29,27 +30,42 @@ fn four(a: u8, b: u8, c: u8, d: u8) -> u32 {
     of_byte(a) + 256 * of_byte(b) + 65536 * of_byte(c) + 16777216 * of_byte(d)
 }
 
-fn read_number() -> u32 {
-    let mut b = [0u8; 4];
-    io::read_full(STDIN_FILENO, &mut b);
-    four(b[0], b[1], b[2], b[3])
+// Reads until buf is full or the input ends, and answers how many bytes it put at the start of buf.
+fn read_full(input: &mut impl Read, buf: &mut [u8]) -> io::Result<usize>
+    ensures { IfOk result (λ n. n ≤ length buf.new) }
+{
+    let mut done = 0;
+    while done < buf.len() {
+        let n = input.read(&mut buf[done..])?;
+        if n == 0 {
+            break;
+        }
+        done += n;
+    }
+    Ok(done)
 }
 
-fn read_case() -> Case {
-    let length = read_number();
-    let words = read_number();
-    let buffer = read_number();
-    let wanted = read_number();
-    let number = read_number();
-    let record = read_number();
-    Case {
+fn read_number(input: &mut impl Read) -> io::Result<u32> {
+    let mut b = [0u8; 4];
+    read_full(input, &mut b)?;
+    Ok(four(b[0], b[1], b[2], b[3]))
+}
+
+fn read_case(input: &mut impl Read) -> io::Result<Case> {
+    let length = read_number(input)?;
+    let words = read_number(input)?;
+    let buffer = read_number(input)?;
+    let wanted = read_number(input)?;
+    let number = read_number(input)?;
+    let record = read_number(input)?;
+    Ok(Case {
         length,
         words,
         buffer,
         wanted,
         number,
         record,
-    }
+    })
 }
 
 fn place(x: u32) -> usize
@@ -111,47 +127,53 @@ fn case_fits(c: Case, book: &[u8], ws: &mut [u32]) -> bool {
 }
 
 // The book is read into all of the slice.
-fn read_and_run(c: Case, book: &mut [u8], ws: &mut [u32]) -> bool {
+fn read_and_run(
+    input: &mut impl Read,
+    c: Case,
+    book: &mut [u8],
+    ws: &mut [u32],
+) -> io::Result<bool> {
     let n = book.len();
-    let got = io::read_full(STDIN_FILENO, book);
-    (got == n) & case_fits(c, book, ws)
+    let got = read_full(input, book)?;
+    Ok((got == n) & case_fits(c, book, ws))
 }
 
-fn run_case(c: Case, book: &mut [u8], ws: &mut [u32]) -> bool {
+fn run_case(input: &mut impl Read, c: Case, book: &mut [u8], ws: &mut [u32]) -> io::Result<bool> {
     let n = least(c.length, book.len());
     let m = least(c.words, ws.len());
-    read_and_run(c, &mut book[..n], &mut ws[..m])
+    read_and_run(input, c, &mut book[..n], &mut ws[..m])
 }
 
 fn one_more(x: u32) -> u32 {
     if x < 4294967295 { x + 1 } else { x }
 }
 
-fn print_number(x: u32) {
-    io::print_decimal(STDOUT_FILENO, x as u64);
+fn print_number(rt: &impl Print, x: u32) -> io::Result<()> {
+    print!(rt; "{x}")
 }
 
-fn line(s: &[u8], x: u32) {
-    io::write_all(STDOUT_FILENO, s);
-    print_number(x);
-    io::write_all(STDOUT_FILENO, b"\n");
+fn line(rt: &impl Print, s: &str, x: u32) -> io::Result<()> {
+    print!(rt; "{s}")?;
+    print_number(rt, x)?;
+    print!(rt; "\n")
 }
 
-fn report(k: u32, c: Case) {
-    line(b"case ", k);
-    line(b"  is refusal ", c.number);
-    line(b"  at record ", c.record);
+fn report(rt: &impl Print, k: u32, c: Case) -> io::Result<()> {
+    line(rt, "case ", k)?;
+    line(rt, "  is refusal ", c.number)?;
+    line(rt, "  at record ", c.record)
 }
 
 // How many cases there were of each number, 0 for the books that are taken.
-fn summary(tally: &[u32; 8]) {
+fn summary(rt: &impl Print, tally: &[u32; 8]) -> io::Result<()> {
     let mut t: u32 = 0;
     while t < 8 {
-        io::write_all(STDOUT_FILENO, b"refusal ");
-        print_number(t);
-        line(b": ", tally[place(t)]);
+        print!(rt; "refusal ")?;
+        print_number(rt, t)?;
+        line(rt, ": ", tally[place(t)])?;
         t += 1;
     }
+    Ok(())
 }
 
 fn count(tally: &mut [u32; 8], number: u32) {
@@ -161,22 +183,23 @@ fn count(tally: &mut [u32; 8], number: u32) {
     }
 }
 
-fn main() {
+fn main(rt: HostRuntime) -> io::Result<()> {
     let mut book = [0u8; 65552];
     let mut ws = [0u32; 16385];
     let mut tally = [0u32; 8];
     let mut wrong: u32 = 0;
-    let n = read_number();
+    let mut input = rt.stdin();
+    let n = read_number(&mut input)?;
     let mut k: u32 = 0;
     while k < n {
-        let c = read_case();
-        if !run_case(c, &mut book, &mut ws) {
-            report(k, c);
+        let c = read_case(&mut input)?;
+        if !run_case(&mut input, c, &mut book, &mut ws)? {
+            report(&rt, k, c)?;
             wrong = one_more(wrong);
         }
         count(&mut tally, c.number);
         k += 1;
     }
-    summary(&tally);
-    line(b"wrong: ", wrong);
+    summary(&rt, &tally)?;
+    line(&rt, "wrong: ", wrong)
 }

@@ -3,7 +3,8 @@
 
 ghost use Rattle.std.specs.Prelude.{◌<◌};
 
-use libc::{STDIN_FILENO, STDOUT_FILENO};
+use std::io;
+use std::io::Read;
 
 fn wide(x: u8) -> u64
     ensures { result < 256 }
@@ -20,76 +21,85 @@ fn pair(out: &[u8; 4096], k: usize) -> u64 {
     }
 }
 
-// Writes a number and what follows it, and answers whether both were taken.
-fn number(n: u64, after: &[u8]) -> bool {
-    io::print_decimal(STDOUT_FILENO, n) & io::write_all(STDOUT_FILENO, after)
+// Writes a number and what follows it.
+fn number(rt: &impl Print, n: u64, after: &str) -> io::Result<()> {
+    print!(rt; "{n}{after}")
 }
 
-fn line(a: u64, b: u64, c: u64, d: u64) -> bool {
-    number(a, b" ") & number(b, b" ") & number(c, b" ") & number(d, b"\n")
+fn line(rt: &impl Print, a: u64, b: u64, c: u64, d: u64) -> io::Result<()> {
+    number(rt, a, " ")?;
+    number(rt, b, " ")?;
+    number(rt, c, " ")?;
+    number(rt, d, "\n")
 }
 
 // A line for each answer record, in order. A record's second number is never 0, and unused bytes are.
-fn records(out: &[u8; 4096]) -> bool {
+fn records(rt: &impl Print, out: &[u8; 4096]) -> io::Result<()> {
     let mut k = 0;
     while k < 4096 {
         let what = pair(out, k + 2);
         if what == 0 {
-            return true;
+            return Ok(());
         }
-        if !line(pair(out, k), what, pair(out, k + 4), pair(out, k + 6)) {
-            return false;
-        }
+        line(rt, pair(out, k), what, pair(out, k + 4), pair(out, k + 6))?;
         k += 8;
     }
-    true
+    Ok(())
 }
 
-fn show(reply: [u32; 6], out: &[u8; 4096]) -> bool {
+fn show(rt: &impl Print, reply: [u32; 6], out: &[u8; 4096]) -> io::Result<()> {
     if reply[0] != 0 {
-        return io::write_all(STDOUT_FILENO, b"refused ")
-            & number(reply[0] as u64, b" ")
-            & number(reply[1] as u64, b"\n");
+        print!(rt; "refused ")?;
+        number(rt, reply[0] as u64, " ")?;
+        return number(rt, reply[1] as u64, "\n");
     }
     line(
+        rt,
         reply[2] as u64,
         reply[3] as u64,
         reply[4] as u64,
         reply[5] as u64,
-    ) & records(out)
+    )?;
+    records(rt, out)
 }
 
-fn answer(book: &[u8]) {
+// Says on standard error what failed, and why.
+fn fail(rt: &impl Eprint, what: &str, error: io::Error) {
+    let _ = eprintln!(rt; "whittermay: {what}: {error}");
+}
+
+fn answer(rt: &(impl Print + Eprint), book: &[u8]) {
     let mut workspace = [0u32; 16384];
     let mut out = [0u8; 4096];
     let mut reply = [0u32; 6];
     capi::whittermay_solve(book, 1000000, 64, &mut workspace, &mut out, &mut reply);
-    if !show(reply, &out) {
-        os::fail(b"whittermay: standard output");
+    if let Err(error) = show(rt, reply, &out) {
+        fail(rt, "standard output", error);
     }
 }
 
 // Reads until the input ends, and answers; or until there is no room, when it is longer than any book. A read that fails is no end: nothing is answered then.
-fn serve(room: &mut [u8]) {
+fn serve(rt: &(impl Print + Eprint), input: &mut impl Read, room: &mut [u8]) {
     let mut done = 0;
     while done < room.len() {
-        let got = libc::read(STDIN_FILENO, &mut room[done..]);
-        if got < 0 {
-            os::fail(b"whittermay: standard input");
-            return;
+        match input.read(&mut room[done..]) {
+            Ok(0) => {
+                answer(rt, &room[..done]);
+                return;
+            }
+            Ok(n) => done += n,
+            Err(error) => {
+                fail(rt, "standard input", error);
+                return;
+            }
         }
-        let n = io::count(got, &room[done..]);
-        if n == 0 {
-            answer(&room[..done]);
-            return;
-        }
-        done += n;
     }
-    answer(room);
+    answer(rt, room);
 }
 
 // One byte more than the longest book: an input that fills it is too long, and is refused as such.
-fn main() {
+fn main(rt: HostRuntime) {
     let mut room = [0u8; 65537];
-    serve(&mut room);
+    let mut input = rt.stdin();
+    serve(&rt, &mut input, &mut room);
 }

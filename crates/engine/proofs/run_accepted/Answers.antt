@@ -16,5 +16,5 @@ pub returns : goal.returns
 returns c = 
     let o = c.open_words in 
     let x = c.counted_run-x in 
-    let k : length x.new.1.0 ≡ length o.new.0 = search rules in
-    let l : length o.new.0 ≡ length c.args.ws.now = search rules in let t = run_done _ _ _ (length x.new.1.0) (length c.args.ws.now) (length c.args.out.now) x.result _ _ _ _ _ x.ensures (search rules) c.clear-2.ensures (k ∙ l) in record { value = t.0; ws_after = t.1.0; out_after = t.1.1 }
+    let k : length x.new.ws ≡ length o.new.ws = search rules in
+    let l : length o.new.ws ≡ length c.args.ws.now = search rules in let t = run_done _ _ _ (length x.new.ws) (length c.args.ws.now) (length c.args.out.now) x.result _ _ _ _ _ x.ensures (search rules) c.clear-2.ensures (k ∙ l) in record { value = t.0; ws_after = t.1.0; out_after = t.1.1 }

@@ -13,4 +13,4 @@ returns-in-Refused c =
 pub returns-in-Fine : goal.returns-in-Fine
 returns-in-Fine c = 
     let t = c.tests in 
-    let a = c.run_accepted.ensures in let t = taken _ c.args.budget _ c.args.workspace.now c.args.out.now _ t.new.1.0 _ _ _ t.ensures.0 c.in-Fine.is (search rules) a.value a.ws_after a.out_after in record { value = t.0; workspace_after = t.1.0; out_after = t.1.1 }
+    let a = c.run_accepted.ensures in let t = taken _ c.args.budget _ c.args.workspace.now c.args.out.now _ t.new.ws _ _ _ t.ensures.0 c.in-Fine.is (search rules) a.value a.ws_after a.out_after in record { value = t.0; workspace_after = t.1.0; out_after = t.1.1 }

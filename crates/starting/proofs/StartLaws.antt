@@ -14,7 +14,7 @@ use Rattle.book.specs.Decode.{question_of, goal_of}
 use Rattle.book.proofs.Accepted.{Accepted}
 use Rattle.book.proofs.AcceptedScoped.{has_records, last_below, last_question, accepted_scoped}
 use Rattle.book.proofs.Pointers.{question_fields, question_goal}
-use Rattle.machine.specs.Machine.{Force, solving, added, todo}
+use Rattle.machine.specs.Machine.{Force, added, todo}
 use Rattle.machine.specs.Store.{Entry, open_entry}
 use Rattle.machine.specs.Run.{start}
 use Rattle.machine.specs.Call.{no_counts}

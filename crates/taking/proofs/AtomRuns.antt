@@ -1,7 +1,7 @@
 -- Taking an atom: the search for its first candidate, and what is kept.
 use mathlib.Core.Path.{◌≡◌, refl}
 use mathlib.Core.List.{List, [], ◌∷◌}
-use Prim.Native.Nat.{ℕ, ◌-◌, ◌<◌}
+use Prim.Native.Nat.{ℕ, ◌<◌}
 use native.Mathlib.Omega.{arith}
 use Rattle.book.specs.Records.{field}
 use Rattle.book.specs.Kinds.{kind_at, atom_kind}

@@ -1,5 +1,4 @@
 use Rattle.engine.proofs.OpenLaws.{opened}
-use borrow.Author.Rules.{rules}
 use Rattle.engine.proofs.open_words.Goals as goal
 
 pub returns : goal.returns

@@ -1,6 +1,5 @@
 use Rattle.running.proofs.HandLaws.{words_size, midway_forgets, answer_ready}
 use Rattle.running.proofs.AnswerTurns.{answer_cut, answer_enough, answer_more}
-use borrow.Author.Rules.{rules}
 use Rattle.running.proofs.answer.Goals as goal
 
 pub forget-requires : goal.forget-requires

@@ -1,6 +1,5 @@
 use mathlib.Core.Path.{refl}
 use Rattle.running.specs.Turns.{one_more}
-use borrow.Author.Rules.{rules}
 use Rattle.running.proofs.count_answer.Goals as goal
 
 pub returns-then-supposed : goal.returns-then-supposed

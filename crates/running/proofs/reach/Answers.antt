@@ -4,7 +4,6 @@ use Rattle.words.proofs.FromAccepted.{readable}
 use Rattle.branch.proofs.FromScoped.{own_ready}
 use Rattle.running.proofs.StepTurns.{due_no, goal_spent}
 use Rattle.taking.proofs.MemoFrames.{memo_ended}
-use borrow.Author.Rules.{rules}
 use Rattle.running.proofs.reach.Goals as goal
 
 pub back-requires : goal.back-requires

@@ -1,8 +1,5 @@
-use mathlib.Core.Path.{◌≡◌, refl, sym}
+use mathlib.Core.Path.{refl, sym}
 use borrow.Author.Rules.{rules}
-use lib.ListN.{length}
-use Rattle.machine.specs.Call.{run_of}
-use Rattle.running.specs.Turns.{Midway, ahead}
 use Rattle.running.proofs.RunEnds.{midway_start, run_on_lem, run_over}
 use Rattle.running.proofs.run.Goals as goal
 

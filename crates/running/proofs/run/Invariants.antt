@@ -1,9 +1,7 @@
-use mathlib.Core.Path.{◌≡◌, refl, sym}
-use borrow.Author.Rules.{rules}
+use mathlib.Core.Path.{◌≡◌}
 use lib.ListN.{length}
 use Rattle.machine.specs.Call.{run_of}
 use Rattle.running.specs.Turns.{Midway, ahead}
-use Rattle.running.proofs.RunEnds.{midway_start, run_on_lem, run_over}
 use Rattle.running.proofs.run.Given as goal
 
 abbrev pub invariant-loop-e : goal.invariant-loop-e

@@ -1,6 +1,5 @@
 use mathlib.Core.Path.{refl}
 use Rattle.steps.specs.Search.{spent_units}
-use borrow.Author.Rules.{rules}
 use Rattle.running.proofs.spend.Goals as goal
 
 pub returns : goal.returns

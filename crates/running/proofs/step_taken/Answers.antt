@@ -1,6 +1,5 @@
 use mathlib.Core.Path.{refl}
 use Rattle.running.specs.Turns.{turn_by}
-use borrow.Author.Rules.{rules}
 use Rattle.running.proofs.step_taken.Goals as goal
 
 pub spend-requires : goal.spend-requires

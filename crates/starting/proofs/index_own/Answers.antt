@@ -1,7 +1,6 @@
 use native.Mathlib.Omega.{arith}
 use Rattle.words.proofs.FromAccepted.{readable}
 use Rattle.starting.proofs.StartLaws.{last_ready, run_clauses, own_indexed}
-use borrow.Author.Rules.{rules}
 use Rattle.starting.proofs.index_own.Goals as goal
 
 pub overflow_sub-last : goal.overflow_sub-last

@@ -1,7 +1,6 @@
 use Rattle.words.proofs.FromAccepted.{readable}
 use native.Mathlib.Omega.{arith}
 use Rattle.starting.proofs.StartLaws.{last_ready, set_up_done}
-use borrow.Author.Rules.{rules}
 use Rattle.starting.proofs.set_up.Goals as goal
 
 pub overflow_sub-last : goal.overflow_sub-last

@@ -1,5 +1,4 @@
 use mathlib.Core.Path.{◌∙◌}
-use borrow.Author.Rules.{rules}
 use Rattle.words.proofs.FromAccepted.{readable}
 use Rattle.supposed.proofs.SupposedKeeps.{supposed_length}
 use Rattle.starting.proofs.StartLaws.{run_ready}

@@ -1,6 +1,5 @@
 use mathlib.Core.Path.{refl}
 use Rattle.taking.specs.Takes.{atom_kept}
-use borrow.Author.Rules.{rules}
 use Rattle.taking.proofs.at_clause.Goals as goal
 
 pub returns : goal.returns

@@ -1,6 +1,5 @@
 use mathlib.Core.Path.{refl}
 use Rattle.taking.specs.Takes.{in_hand}
-use borrow.Author.Rules.{rules}
 use Rattle.taking.proofs.in_hand.Goals as goal
 
 pub returns : goal.returns

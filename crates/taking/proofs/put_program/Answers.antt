@@ -2,7 +2,6 @@ use mathlib.Core.Path.{refl}
 use native.Mathlib.Omega.{arith}
 use lib.ListN.{length-set}
 use Rattle.taking.specs.Takes.{put_program}
-use borrow.Author.Rules.{rules}
 use Rattle.taking.proofs.put_program.Goals as goal
 
 pub bounds-ws-at-2 : goal.bounds-ws-at-2

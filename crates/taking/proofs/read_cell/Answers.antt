@@ -1,6 +1,5 @@
 use mathlib.Core.Path.{refl}
 use Rattle.taking.specs.Takes.{cell_of}
-use borrow.Author.Rules.{rules}
 use Rattle.taking.proofs.read_cell.Goals as goal
 
 pub returns : goal.returns

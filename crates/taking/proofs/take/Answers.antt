@@ -2,7 +2,6 @@ use native.Mathlib.Omega.{arith}
 use Rattle.words.proofs.ReadLaws.{in_book}
 use Rattle.taking.proofs.MemoFrames.{memo_ended, memo_atom, memo_and, memo_or, memo_suppose, memo_plain}
 use Rattle.taking.proofs.TakingLaws.{stops, read_ready, goal_inside, goal_atom, take_room, take_standing, takes_atom, takes_plain, takes_and, takes_or, takes_suppose}
-use borrow.Author.Rules.{rules}
 use Rattle.taking.proofs.take.Goals as goal
 
 pub returns-then-r-ge512 : goal.returns-then-r-ge512

@@ -1,6 +1,5 @@
 use Rattle.taking.specs.Takes.{and_regs}
 use Rattle.taking.proofs.WrittenLaws.{and_written}
-use borrow.Author.Rules.{rules}
 use Rattle.taking.proofs.take_and.Goals as goal
 
 pub returns : goal.returns

@@ -1,6 +1,5 @@
 use native.Mathlib.Omega.{arith}
 use Rattle.taking.proofs.AtomRuns.{atom_at, atom_none}
-use borrow.Author.Rules.{rules}
 use Rattle.taking.proofs.take_atom.Goals as goal
 
 pub seek_first-requires : goal.seek_first-requires

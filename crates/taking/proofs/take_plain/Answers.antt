@@ -1,7 +1,6 @@
 use mathlib.Core.Path.{refl}
 use Rattle.words.specs.Words.{term_word}
 use Rattle.taking.specs.Takes.{plain_words, plain_regs}
-use borrow.Author.Rules.{rules}
 use Rattle.taking.proofs.take_plain.Goals as goal
 
 pub returns : goal.returns

@@ -1,6 +1,5 @@
 use Rattle.taking.specs.Takes.{suppose_regs}
 use Rattle.taking.proofs.WrittenLaws.{suppose_written}
-use borrow.Author.Rules.{rules}
 use Rattle.taking.proofs.take_suppose.Goals as goal
 
 pub returns : goal.returns

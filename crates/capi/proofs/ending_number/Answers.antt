@@ -1,4 +1,3 @@
-use borrow.Author.Rules.{rules}
 use Rattle.machine.specs.Run.{ending_number, limit_number}
 use Rattle.capi.proofs.ending_number.Goals as goal
 

@@ -1,4 +1,3 @@
-use borrow.Author.Rules.{rules}
 use mathlib.Core.Path.{sym}
 use Rattle.capi.proofs.SixLaws.{six_declined, six_ended}
 use Rattle.capi.proofs.six.Goals as goal

@@ -1,5 +1,4 @@
 use mathlib.Core.Path.{◌∙◌, ap}
-use borrow.Author.Rules.{rules}
 use Rattle.capi.specs.Six.{reply_six}
 use Rattle.capi.proofs.whittermay_solve.Goals as goal
 

@@ -18,7 +18,7 @@ use Rattle.seeking.proofs.SeekOwn.{own_at}
 use Rattle.branch.proofs.FromScoped.{own_ready}
 use Rattle.branch.proofs.ClauseLaws.{ClauseHere, put_clause, own_clause}
 use Rattle.returning.specs.Reentry.{place_of}
-use Rattle.seeking.proofs.SeekChain.{PutAt, put_at}
+use Rattle.seeking.proofs.SeekChain.{PutAt, put_at_lem}
 
 module _ (book : List ℕ) (R : Readable book) (A : Accepted book) (ws : List ℕ) (made top q i : ℕ) (f : Force) (after : List Force) (C : IsClause book ws made top q i f after) where
   -- THE QUESTION'S OWN RUN
@@ -42,7 +42,7 @@ module _ (book : List ℕ) (R : Readable book) (A : Accepted book) (ws : List �
   -- A PROGRAM THAT WAS PUT
   module _ (z : 0 < q) where
     at_put : PutAt book ws made top q i (f ∷ after)
-    at_put = put_at z C.0
+    at_put = put_at_lem z C.0
 
     pub put_top : q < top
     put_top = at_put.below
@@ -59,7 +59,7 @@ module _ (book : List ℕ) (R : Readable book) (A : Accepted book) (ws : List �
     -- the place after it is one of the same run
     put_more : i < field book at_put.s 2
     put_more =
-        let Y = put_at z C.1 in
+        let Y = put_at_lem z C.1 in
         let e : Y.s ≡ at_put.s = sym (rw Y.word (rec_pack Y.s Y.b Y.base)) ∙ rec_is in
         omega (arith, rw e at Y.most)
 

@@ -47,9 +47,9 @@ pub record PutAt (book ws : List ℕ) (made top q k : ℕ) (rest : List Force) :
   pub before : IsRest book ws made top prev 0 program
   pub is : rest ≡ rest_of book (run_of_suppose book s b) k program
 
-pub put_at : {book ws : List ℕ} {made top q k : ℕ} {rest : List Force} → 0 < q → IsRest book ws made top q k rest → PutAt book ws made top q k rest
-put_at h (own_rest e m u) = absurd (omega arith)
-put_at h (put_rest {q = prev} {s = s} {b = b} {program = program} a c d e f g i j m r) = record
+pub put_at_lem : {book ws : List ℕ} {made top q k : ℕ} {rest : List Force} → 0 < q → IsRest book ws made top q k rest → PutAt book ws made top q k rest
+put_at_lem h (own_rest e m u) = absurd (omega arith)
+put_at_lem h (put_rest {q = prev} {s = s} {b = b} {program = program} a c d e f g i j m r) = record
     { s = s; b = b; prev = prev; program = program; some = a; below = c; word = d; link = e; falls = f; kind = g; here = i; base = j; most = m; before = r; is = refl }
 
 -- the run of a suppose goal is one of clauses
@@ -122,11 +122,11 @@ module _ (book : List ℕ) (R : Readable book) (F : Formed book) (ws : List ℕ)
 -- a candidate of a program that was put matches
 module _ (book : List ℕ) (R : Readable book) (F : Formed book) (ws : List ℕ) (made top p i f m : ℕ) (h : 0 < p) (X : IsCandidate book ws made top p i f m) where
   here : PutAt book ws made top p i (X.c ∷ X.after)
-  here = put_at h X.clause.0
+  here = put_at_lem h X.clause.0
 
   number_below : i < field book here.s 2
   number_below =
-      let P = put_at h X.clause.1 in
+      let P = put_at_lem h X.clause.1 in
       let e : P.s ≡ here.s = sym (record_is book R F ws made top p (suc i) X.after P) ∙ record_is book R F ws made top p i (X.c ∷ X.after) here in
       omega (arith, P.most, ap (λ (s : ℕ). field book s 2) e)
 
@@ -158,7 +158,7 @@ module _ (book : List ℕ) (R : Readable book) (F : Formed book) (ws : List ℕ)
 pub candidate_put : (book : List ℕ) (R : Readable book) (F : Formed book) (ws : List ℕ) (made top p i f m : ℕ) → 0 < p → IsCandidate book ws made top p i f m
     → (i < 64) × Standing book ws made top p (i + 1)
 candidate_put book R F ws made top p i f m h X =
-    let P = put_at h X.clause.1 in
+    let P = put_at_lem h X.clause.1 in
     let y = suppose_run book R F P.s P.here.inside P.kind in
     let z : i + 1 ≡ suc i = omega arith in
     (omega (arith, P.most, y.2), (X.after, rw z X.clause.1))
@@ -200,10 +200,10 @@ own_nowhere book ws made top f m q rest e r = put_nowhere refl (at_own e refl r)
 
 pub unmarked : (book : List ℕ) (R : Readable book) (F : Formed book) (ws : List ℕ) (f m : ℕ) → SupposedIndexed book ws → marked ws (head_bucket f m) ≡ false
     → (made top q k : ℕ) (rest : List Force) → (q ≡ 0 → k ≡ 0) → IsRest book ws made top q k rest → SoughtPut book ws made top f m rest 0
-unfolding put_at
+unfolding put_at_lem
 unmarked book R F ws f m S e made top q k rest z (own_rest a b c) = put_nowhere refl (at_own a (z a) (own_rest a b c)) refl
 unmarked book R F ws f m S e made top q k rest z (put_rest {q = prev} {s = s} {b = b} {program = program} a c d l g h i j n r) =
-    let X : PutAt book ws made top q k rest = put_at a (put_rest {q = prev} {s = s} {b = b} {program = program} a c d l g h i j n r) in
+    let X : PutAt book ws made top q k rest = put_at_lem a (put_rest {q = prev} {s = s} {b = b} {program = program} a c d l g h i j n r) in
     let u = not_marked book ws f m s k S i.inside h e n in
     put_as (sym (seek_next book R F ws made top q k rest X f m (omega (arith, u)))) (unmarked book R F ws f m S e made top prev 0 program (λ x. refl) r)
 

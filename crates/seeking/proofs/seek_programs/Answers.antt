@@ -1,6 +1,6 @@
 use native.Mathlib.Omega.{arith}
 use mathlib.Core.Path.{refl, sym, ◌∙◌}
-use Rattle.seeking.proofs.SeekChain.{own_nowhere, unmarked, put_at}
+use Rattle.seeking.proofs.SeekChain.{own_nowhere, unmarked, put_at_lem}
 use Rattle.seeking.proofs.MemoLaws.{stays_none}
 use Rattle.seeking.proofs.seek_programs.Goals as goal
 
@@ -11,7 +11,7 @@ pub is_supposed-requires : goal.is_supposed-requires
 is_supposed-requires c = let S = c.requires.searchable in (S.symbol, omega (arith, S.count), S.size)
 
 pub known-v-requires : goal.known-v-requires
-known-v-requires c = let p = c.requires in let S = p.searchable in let y = c.if-p-eq0.false in let x = put_at (omega arith) S.standing.1 in record { ws_len = (S.size, x.some, x.below, S.few, omega arith, S.symbol, S.count); by_index = S.memo }
+known-v-requires c = let p = c.requires in let S = p.searchable in let y = c.if-p-eq0.false in let x = put_at_lem (omega arith) S.standing.1 in record { ws_len = (S.size, x.some, x.below, S.few, omega arith, S.symbol, S.count); by_index = S.memo }
 
 pub returns-then-v-gt0 : goal.returns-then-v-gt0
 returns-then-v-gt0 c = record { finds = c.known-v.ensures.1 c.if-v-gt0.true; memo_stays = stays_none _ _ _ }

@@ -17,7 +17,7 @@ pub overflow_add-made : goal.overflow_add-made
 overflow_add-made c = omega (arith, c.requires.to_clause.1.again.sound.slots.room, c.field.ensures.1)
 
 pub returns-then-made-gt2048 : goal.returns-then-made-gt2048
-returns-then-made-gt2048 c = record { tries = (λ r threads h X. let p = c.requires in over _ p.readable p.accepted.0 _ _ _ _ X _ c.place-p.ensures _ c.field.ensures.0 r _ p.left_nonzero c.if-made-gt2048.true); memo_stepped = memo_ended _ _ _ _ _ }
+returns-then-made-gt2048 c = record { tries = (λ r threads h X. let p = c.requires in over _ p.readable p.accepted.0 _ _ _ _ X _ c.place-p.ensures _ c.field.ensures.0 r _ p.left_nonzero (omega (arith, c.if-made-gt2048.true))); memo_stepped = memo_ended _ _ _ _ _ }
 
 pub renew-n-requires : goal.renew-n-requires
 renew-n-requires c = let p = c.requires in record { accepted = p.accepted; to_clause = p.to_clause }

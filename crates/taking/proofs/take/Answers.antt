@@ -5,7 +5,7 @@ use Rattle.taking.proofs.TakingLaws.{stops, read_ready, goal_inside, goal_atom, 
 use Rattle.taking.proofs.take.Goals as goal
 
 pub returns-then-r-ge512 : goal.returns-then-r-ge512
-returns-then-r-ge512 c = let p = c.requires in record { reach_contract = stops _ p.accepted.0.formed _ _ _ p.solving_value.0 p.solving_value.1 p.solving_value.2 c.if-r-ge512.true; memo_reached = memo_ended _ _ _ _ _ }
+returns-then-r-ge512 c = let p = c.requires in record { reach_contract = stops _ p.accepted.0.formed _ _ _ p.solving_value.0 p.solving_value.1 p.solving_value.2 (omega (arith, c.if-r-ge512.true)); memo_reached = memo_ended _ _ _ _ _ }
 
 pub read_cell-x-requires : goal.read_cell-x-requires
 read_cell-x-requires c = let p = c.requires in read_ready _ _ _ p.solving_value.0 p.solving_value.1 p.stands

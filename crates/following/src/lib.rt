@@ -5,10 +5,11 @@
 ghost use Rattle.std.specs.Prelude.{◌≡◌, ◌<◌, length};
 ghost use Rattle.book.specs.Records.{records};
 ghost use Rattle.book.proofs.Accepted.{Formed};
-ghost use Rattle.words.specs.Readable.{Readable};
 ghost use Rattle.branch.specs.State.{OwnReady, own_run};
 ghost use Rattle.seeking.specs.Seeking.{AllIndexed};
 ghost use Rattle.following.specs.Plain.{plain_clause, plain_body, follow_on};
+
+use words::{Book, Words};
 
 // Where plain rules lead: the goal, and how many were entered on the way.
 #[derive(Clone, Copy)]
@@ -18,35 +19,33 @@ pub struct Followed {
 }
 
 // The body of clause c, one more than its record, if c has no variables; 0 if it has some, or no body.
-fn plain_clause(book: &[u8], c: u32) -> u32
-    requires readable { Readable book.now }
-    requires c_bound { c < records book.now }
-    ensures { result ≡ plain_clause book.now c }
+fn plain_clause(book: &Book, c: u32) -> u32
+    requires c_bound { c < records book.now.bytes.now }
+    ensures { result ≡ plain_clause book.now.bytes.now c }
 {
-    if words::field(book, c, 1) != 0 {
+    if book.field(c, 1) != 0 {
         return 0;
     }
-    if words::field(book, c, 5) != 1 {
+    if book.field(c, 5) != 1 {
         return 0;
     }
-    words::field(book, c, 6) + 1
+    book.field(c, 6) + 1
 }
 
 // The body of the plain rule for goal g, one more than its record; 0 if there is none. The question's own run is n links from `first`.
-fn plain_body(book: &[u8], ws: &[u32], first: u32, n: u32, g: u32) -> u32
-    requires readable { Readable book.now }
-    requires formed { Formed book.now × OwnReady book.now 0 × AllIndexed book.now ws.now }
-    requires first_value { (first ≡ (own_run book.now).first) × (n ≡ (own_run book.now).count) }
-    requires g_bound { (g < records book.now) × (length ws.now ≡ 16384) }
-    ensures { result ≡ plain_body book.now g }
+fn plain_body(book: &Book, ws: &Words, first: u32, n: u32, g: u32) -> u32
+    requires formed { Formed book.now.bytes.now × OwnReady book.now.bytes.now 0 × AllIndexed book.now.bytes.now ws.now }
+    requires first_value { (first ≡ (own_run book.now.bytes.now).first) × (n ≡ (own_run book.now.bytes.now).count) }
+    requires g_bound { g < records book.now.bytes.now }
+    ensures { result ≡ plain_body book.now.bytes.now g }
 {
-    if words::field(book, g, 0) != 4 {
+    if book.field(g, 0) != 4 {
         return 0;
     }
-    if words::field(book, g, 2) != 0 {
+    if book.field(g, 2) != 0 {
         return 0;
     }
-    let f = words::field(book, g, 1);
+    let f = book.field(g, 1);
     let i = index::first_match(book, ws, first, n, f, 0);
     if n <= i {
         return 0;
@@ -60,15 +59,14 @@ fn plain_body(book: &[u8], ws: &[u32], first: u32, n: u32, g: u32) -> u32
 }
 
 // Follows plain rules from a goal, as far as they lead, but `most` of them at most.
-pub fn follow(book: &[u8], ws: &[u32], goal: u32, most: u32) -> Followed
-    requires readable { Readable book.now }
-    requires formed { Formed book.now × OwnReady book.now 0 × AllIndexed book.now ws.now }
-    requires goal_bound { (goal < records book.now) × (length ws.now ≡ 16384) }
-    ensures { result ≡ follow_on book.now goal 0 most }
+pub fn follow(book: &Book, ws: &Words, goal: u32, most: u32) -> Followed
+    requires formed { Formed book.now.bytes.now × OwnReady book.now.bytes.now 0 × AllIndexed book.now.bytes.now ws.now }
+    requires goal_bound { goal < records book.now.bytes.now }
+    ensures { result ≡ follow_on book.now.bytes.now goal 0 most }
 {
-    let last = (book.len() / 16 - 1) as u32;
-    let first = words::field(book, last, 1);
-    let n = words::field(book, last, 2);
+    let last = book.last();
+    let first = book.field(last, 1);
+    let n = book.field(last, 2);
     let mut g = goal;
     let mut rules: u32 = 0;
     while rules < most {

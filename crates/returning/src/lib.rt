@@ -5,7 +5,6 @@ ghost use Rattle.std.specs.Prelude.{◌≡◌, true, false, List, ℕ, ◌+◌, 
 ghost use Rattle.book.specs.Records.{field as book_field, records};
 ghost use Rattle.book.proofs.Accepted.{Accepted};
 ghost use Rattle.machine.specs.Machine.{Thread};
-ghost use Rattle.words.specs.Readable.{Readable};
 ghost use Rattle.words.specs.Words.{rec_of};
 ghost use Rattle.seeking.specs.Seeking.{AllIndexed};
 ghost use Rattle.seeking.specs.Memo.{Memo, MemoStays};
@@ -21,6 +20,7 @@ use machine::{Ending, Limit};
 use seeking::Candidate;
 use steps::{Regs, Stepped};
 use unifier::Unified;
+use words::{Book, Words};
 
 // A clause in force: its record, and where the variables of its suppose goal's holder begin.
 #[derive(Clone, Copy)]
@@ -37,24 +37,23 @@ pub struct Front {
 }
 
 // Where the next candidate is.
-fn place(book: &[u8], ws: &[u32], x: Back) -> InForce
-    requires readable { Readable book.now }
-    requires accepted { Accepted book.now }
-    requires leads { Leads book.now ws.now x }
-    ensures { result ≡ place_of book.now ws.now x.node x.index }
+fn place(book: &Book, ws: &Words, x: Back) -> InForce
+    requires accepted { Accepted book.now.bytes.now }
+    requires leads { Leads book.now.bytes.now ws.now x }
+    ensures { result ≡ place_of book.now.bytes.now ws.now x.node x.index }
 {
     if x.node == 0 {
-        let last = (book.len() / 16 - 1) as u32;
-        let first = words::field(book, last, 1);
-        let c = words::field(book, first + x.index, 1);
+        let last = book.last();
+        let first = book.field(last, 1);
+        let c = book.field(first + x.index, 1);
         return InForce {
             clause: c,
             outer: 0,
         };
     }
     let w = ws[(8200 + 3 * x.node) as usize];
-    let first = words::field(book, w / 4096 - 1, 1);
-    let c = words::field(book, first + x.index, 1);
+    let first = book.field(w / 4096 - 1, 1);
+    let c = book.field(first + x.index, 1);
     InForce {
         clause: c,
         outer: w % 4096,
@@ -81,10 +80,10 @@ fn at_place(x: Back, q: u32, i: u32) -> Back
 }
 
 // Keeps alternative k for the candidates from `next` on, if there are any: how many alternatives there are now.
-fn renew(book: &[u8], ws: &mut [u32], k: u32, x: Back, next: Candidate) -> u32
-    requires accepted { Accepted book.now × NextIs book.now ws.old x next }
-    requires to_clause { (threads : List Thread) × ToClause book.now ws.old k x threads }
-    ensures { (threads : List Thread) (X : ToClause book.now ws.old k x threads) → Renewed book.now ws.old ws.new k x threads X result }
+fn renew(book: &Book, ws: &mut Words, k: u32, x: Back, next: Candidate) -> u32
+    requires accepted { Accepted book.now.bytes.now × NextIs book.now.bytes.now ws.old x next }
+    requires to_clause { (threads : List Thread) × ToClause book.now.bytes.now ws.old k x threads }
+    ensures { (threads : List Thread) (X : ToClause book.now.bytes.now ws.old k x threads) → Renewed book.now.bytes.now ws.old ws.new k x threads X result }
 {
     match next {
         Candidate::At(q, i) => {
@@ -96,15 +95,14 @@ fn renew(book: &[u8], ws: &mut [u32], k: u32, x: Back, next: Candidate) -> u32
 }
 
 // Puts the body of clause c, if it has one, at the front of the list, with the program of the call.
-fn put_body(book: &[u8], ws: &mut [u32], c: u32, x: Back) -> Front
-    requires readable { Readable book.now }
-    requires c_bound { (c < records book.now) × (x.made < 4096) × (x.cells < 1026) × (x.call < 4096) × (x.cell < 4096) × (length ws.old ≡ 16384) }
-    ensures ws_after { ws.new ≡ body_words book.now c x ws.old }
-    ensures value { result ≡ front_of book.now c x }
+fn put_body(book: &Book, ws: &mut Words, c: u32, x: Back) -> Front
+    requires c_bound { (c < records book.now.bytes.now) × (x.made < 4096) × (x.cells < 1026) × (x.call < 4096) × (x.cell < 4096) }
+    ensures ws_after { ws.new ≡ body_words book.now.bytes.now c x ws.old }
+    ensures value { result ≡ front_of book.now.bytes.now c x }
 {
-    let flag = words::field(book, c, 5);
+    let flag = book.field(c, 5);
     if flag == 1 {
-        let g = words::field(book, c, 6);
+        let g = book.field(c, 6);
         branch::put_cell(ws, x.cells, 4096 * (g + 1) + x.made, x.call, x.cell);
         return Front {
             cell: x.cells,
@@ -165,84 +163,79 @@ pub enum Passed {
 }
 
 // The atom's first argument, read through, as a word; 0 if it has no argument.
-fn first_word(book: &[u8], ws: &[u32], k: u32, x: Back) -> u32
-    requires readable { Readable book.now }
-    requires accepted { Accepted book.now }
-    requires to_clause { (threads : List Thread) × ToClause book.now ws.now k x threads }
-    ensures { 4096 ≤ result → FirstIs book.now ws.now x.made (x.atom / 4096 - 1) (x.atom % 4096) result }
+fn first_word(book: &Book, ws: &Words, k: u32, x: Back) -> u32
+    requires accepted { Accepted book.now.bytes.now }
+    requires to_clause { (threads : List Thread) × ToClause book.now.bytes.now ws.now k x threads }
+    ensures { 4096 ≤ result → FirstIs book.now.bytes.now ws.now x.made (x.atom / 4096 - 1) (x.atom % 4096) result }
 {
     let a = x.atom / 4096 - 1;
-    let m = words::field(book, a, 2);
+    let m = book.field(a, 2);
     if m == 0 {
         return 0;
     }
-    let first = words::field(book, a, 3);
-    let t = words::field(book, first, 1);
-    let w = words::word_for(book, x.atom % 4096, t);
+    let first = book.field(a, 3);
+    let t = book.field(first, 1);
+    let w = book.word_for(x.atom % 4096, t);
     words::read_through(book, x.made, ws, w)
 }
 
 // Whether the head of clause c has at its first argument a term of another symbol or argument count than word w.
-fn clashes(book: &[u8], c: u32, w: u32, made: u32) -> bool
-    requires readable { Readable book.now }
-    requires c_bound { (c < records book.now) × (book_field book.now c 4 < records book.now) × (book_field book.now (book_field book.now c 4) 3 < records book.now) × (first_argument book.now (book_field book.now c 4) < records book.now) }
-    requires le_w { (4096 ≤ w) × (rec_of w < records book.now) × (made + book_field book.now c 1 ≤ 2048) }
-    ensures { result ≡ true → Clashes book.now made w c }
+fn clashes(book: &Book, c: u32, w: u32, made: u32) -> bool
+    requires c_bound { (c < records book.now.bytes.now) × (book_field book.now.bytes.now c 4 < records book.now.bytes.now) × (book_field book.now.bytes.now (book_field book.now.bytes.now c 4) 3 < records book.now.bytes.now) × (first_argument book.now.bytes.now (book_field book.now.bytes.now c 4) < records book.now.bytes.now) }
+    requires le_w { (4096 ≤ w) × (rec_of w < records book.now.bytes.now) × (made + book_field book.now.bytes.now c 1 ≤ 2048) }
+    ensures { result ≡ true → Clashes book.now.bytes.now made w c }
 {
-    let h = words::field(book, c, 4);
-    let l = words::field(book, h, 3);
-    let u = words::field(book, l, 1);
-    if words::field(book, u, 0) != 2 {
+    let h = book.field(c, 4);
+    let l = book.field(h, 3);
+    let u = book.field(l, 1);
+    if book.field(u, 0) != 2 {
         return false;
     }
     let r = w / 4096 - 1;
-    if words::field(book, r, 1) != words::field(book, u, 1) {
+    if book.field(r, 1) != book.field(u, 1) {
         return true;
     }
-    words::field(book, r, 2) != words::field(book, u, 2)
+    book.field(r, 2) != book.field(u, 2)
 }
 
 // Whether the next candidate clashes at once with the atom, whose first argument is the term of word w (below 4096: it is no term).
-fn passes(book: &[u8], ws: &[u32], k: u32, x: Back, w: u32) -> bool
-    requires readable { Readable book.now }
-    requires accepted { Accepted book.now }
-    requires first_is { 4096 ≤ w → FirstIs book.now ws.now x.made (x.atom / 4096 - 1) (x.atom % 4096) w }
-    requires to_clause { (threads : List Thread) × ToClause book.now ws.now k x threads }
-    ensures { result ≡ true → (4096 ≤ w) × Clashes book.now x.made w (place_of book.now ws.now x.node x.index).clause }
+fn passes(book: &Book, ws: &Words, k: u32, x: Back, w: u32) -> bool
+    requires accepted { Accepted book.now.bytes.now }
+    requires first_is { 4096 ≤ w → FirstIs book.now.bytes.now ws.now x.made (x.atom / 4096 - 1) (x.atom % 4096) w }
+    requires to_clause { (threads : List Thread) × ToClause book.now.bytes.now ws.now k x threads }
+    ensures { result ≡ true → (4096 ≤ w) × Clashes book.now.bytes.now x.made w (place_of book.now.bytes.now ws.now x.node x.index).clause }
 {
     if w < 4096 {
         return false;
     }
     let p = place(book, ws, x);
-    if 2048 < x.made + words::field(book, p.clause, 1) {
+    if 2048 < x.made + book.field(p.clause, 1) {
         return false;
     }
     clashes(book, p.clause, w, x.made)
 }
 
 // The candidate after the next one.
-fn after_next(book: &[u8], ws: &mut [u32], k: u32, x: Back) -> Candidate
-    requires readable { Readable book.now }
-    requires accepted { Accepted book.now × AllIndexed book.now ws.old }
-    requires to_clause { (threads : List Thread) × ToClause book.now ws.old k x threads }
-    requires by_index { (left : ℕ) × Memo book.now ws.old x.programs left }
-    ensures next_is { NextIs book.now ws.new x result }
-    ensures memo_stays { MemoStays book.now x.programs ws.old ws.new }
+fn after_next(book: &Book, ws: &mut Words, k: u32, x: Back) -> Candidate
+    requires accepted { Accepted book.now.bytes.now × AllIndexed book.now.bytes.now ws.old }
+    requires to_clause { (threads : List Thread) × ToClause book.now.bytes.now ws.old k x threads }
+    requires by_index { (left : ℕ) × Memo book.now.bytes.now ws.old x.programs left }
+    ensures next_is { NextIs book.now.bytes.now ws.new x result }
+    ensures memo_stays { MemoStays book.now.bytes.now x.programs ws.old ws.new }
 {
     let a = x.atom / 4096 - 1;
-    let f = words::field(book, a, 1);
-    let m = words::field(book, a, 2);
+    let f = book.field(a, 1);
+    let m = book.field(a, 2);
     seeking::seek_after(book, x.made, ws, x.programs, x.node, x.index, f, m)
 }
 
 // Passes over the candidates that clash at once with the atom: each is entered and fails at its first pair, two units.
-fn pass_over(book: &[u8], ws: &mut [u32], k: u32, x: Back, left: u32) -> Passed
-    requires readable { Readable book.now }
-    requires accepted { Accepted book.now × AllIndexed book.now ws.old }
-    requires to_clause { (threads : List Thread) × ToClause book.now ws.old k x threads }
-    requires memo { Memo book.now ws.old x.programs left }
-    ensures pass_gives { (threads : List Thread) → ToClause book.now ws.old k x threads → PassGives book.now ws.new k x left threads result }
-    ensures memo_stays { MemoStays book.now x.programs ws.old ws.new }
+fn pass_over(book: &Book, ws: &mut Words, k: u32, x: Back, left: u32) -> Passed
+    requires accepted { Accepted book.now.bytes.now × AllIndexed book.now.bytes.now ws.old }
+    requires to_clause { (threads : List Thread) × ToClause book.now.bytes.now ws.old k x threads }
+    requires memo { Memo book.now.bytes.now ws.old x.programs left }
+    ensures pass_gives { (threads : List Thread) → ToClause book.now.bytes.now ws.old k x threads → PassGives book.now.bytes.now ws.new k x left threads result }
+    ensures memo_stays { MemoStays book.now.bytes.now x.programs ws.old ws.new }
 {
     let w = first_word(book, ws, k, x);
     let mut y = x;
@@ -264,17 +257,16 @@ fn pass_over(book: &[u8], ws: &mut [u32], k: u32, x: Back, left: u32) -> Passed
 }
 
 // Enters the next candidate of alternative k; `next` is the one after it.
-fn try_next(book: &[u8], ws: &mut [u32], k: u32, x: Back, next: Candidate, left: u32) -> Stepped
-    requires readable { Readable book.now }
-    requires accepted { Accepted book.now × NextIs book.now ws.old x next }
+fn try_next(book: &Book, ws: &mut Words, k: u32, x: Back, next: Candidate, left: u32) -> Stepped
+    requires accepted { Accepted book.now.bytes.now × NextIs book.now.bytes.now ws.old x next }
     requires left_nonzero { 0 < left }
-    requires to_clause { (threads : List Thread) × ToClause book.now ws.old k x threads }
-    requires memo { Memo book.now ws.old x.programs left }
-    ensures tries { Tries book.now ws.old ws.new k x left result }
-    ensures memo_stepped { MemoStepped book.now ws.new left result }
+    requires to_clause { (threads : List Thread) × ToClause book.now.bytes.now ws.old k x threads }
+    requires memo { Memo book.now.bytes.now ws.old x.programs left }
+    ensures tries { Tries book.now.bytes.now ws.old ws.new k x left result }
+    ensures memo_stepped { MemoStepped book.now.bytes.now ws.new left result }
 {
     let p = place(book, ws, x);
-    let made = x.made + words::field(book, p.clause, 1);
+    let made = x.made + book.field(p.clause, 1);
     if 2048 < made {
         return Stepped::Finished(Ending::Stopped(Limit::Variables), 0);
     }
@@ -324,13 +316,12 @@ fn later(used: u32, s: Stepped) -> Stepped
 }
 
 // Tries the candidates of alternative k, to which the search has just gone back: those that clash at once are passed over, and the next one is entered.
-fn try_all(book: &[u8], ws: &mut [u32], k: u32, x: Back, left: u32) -> Stepped
-    requires readable { Readable book.now }
-    requires accepted { Accepted book.now × AllIndexed book.now ws.old }
-    requires to_clause { (threads : List Thread) × ToClause book.now ws.old k x threads }
-    requires memo { Memo book.now ws.old x.programs left }
-    ensures tries { Tries book.now ws.old ws.new k x left result }
-    ensures memo_stepped { MemoStepped book.now ws.new left result }
+fn try_all(book: &Book, ws: &mut Words, k: u32, x: Back, left: u32) -> Stepped
+    requires accepted { Accepted book.now.bytes.now × AllIndexed book.now.bytes.now ws.old }
+    requires to_clause { (threads : List Thread) × ToClause book.now.bytes.now ws.old k x threads }
+    requires memo { Memo book.now.bytes.now ws.old x.programs left }
+    ensures tries { Tries book.now.bytes.now ws.old ws.new k x left result }
+    ensures memo_stepped { MemoStepped book.now.bytes.now ws.new left result }
 {
     match pass_over(book, ws, k, x, left) {
         Passed::Through(y, used) => Stepped::Onward(used, given_up(y, k)),
@@ -372,12 +363,12 @@ pub enum Reached {
 }
 
 // Goes back to the newest alternative; with none left the search is complete.
-pub fn back(book: &[u8], ws: &mut [u32], r: Regs, left: u32) -> Reached
+pub fn back(book: &Book, ws: &mut Words, r: Regs, left: u32) -> Reached
     requires solving_value { r.solving ≡ false }
-    requires stands { (threads : List Thread) × Stands book.now ws.old r threads }
-    requires memo { Memo book.now ws.old r.programs left }
-    ensures reach_contract { ReachContract book.now ws.old ws.new r left result }
-    ensures memo_reached { MemoReached book.now ws.new left result }
+    requires stands { (threads : List Thread) × Stands book.now.bytes.now ws.old r threads }
+    requires memo { Memo book.now.bytes.now ws.old r.programs left }
+    ensures reach_contract { ReachContract book.now.bytes.now ws.old ws.new r left result }
+    ensures memo_reached { MemoReached book.now.bytes.now ws.new left result }
 {
     if r.alternatives == 0 {
         return Reached::Finished(Ending::Complete, 0);
@@ -391,13 +382,12 @@ pub fn back(book: &[u8], ws: &mut [u32], r: Regs, left: u32) -> Reached
 }
 
 // Goes on from what a step has reached: a candidate is tried.
-pub fn go_on(book: &[u8], ws: &mut [u32], o: Reached, left: u32) -> Stepped
-    requires readable { Readable book.now }
-    requires accepted { Accepted book.now }
-    requires can_go_on { CanGoOn book.now ws.old left o }
-    requires memo_reached { MemoReached book.now ws.old left o }
-    ensures goes_on { GoesOn book.now ws.old ws.new left o result }
-    ensures memo_stepped { MemoStepped book.now ws.new left result }
+pub fn go_on(book: &Book, ws: &mut Words, o: Reached, left: u32) -> Stepped
+    requires accepted { Accepted book.now.bytes.now }
+    requires can_go_on { CanGoOn book.now.bytes.now ws.old left o }
+    requires memo_reached { MemoReached book.now.bytes.now ws.old left o }
+    ensures goes_on { GoesOn book.now.bytes.now ws.old ws.new left o result }
+    ensures memo_stepped { MemoStepped book.now.bytes.now ws.new left result }
 {
     match o {
         Reached::Onward(n, r) => Stepped::Onward(n, r),

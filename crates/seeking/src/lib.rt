@@ -2,12 +2,13 @@
 #![tactic(auto)]
 
 ghost use Rattle.std.specs.Prelude.{◌≡◌, ℕ, ◌+◌, ◌-◌, ◌*◌, ◌≤◌, ◌<◌, length, List};
-ghost use Rattle.words.specs.Readable.{Readable};
 ghost use Rattle.seeking.specs.Seeking.{AllIndexed, OwnMatches, own_candidate, IsCandidate, Sought, SoughtPut};
 ghost use Rattle.seeking.specs.Memo.{entry_at, head_rest, forget_words, Finds, Memo, memo_words, MemoStays, Searchable};
 ghost use Rattle.branch.specs.State.{OwnReady, IsRest};
 ghost use Rattle.book.proofs.Accepted.{Formed};
 ghost use Rattle.machine.specs.Machine.{Force};
+
+use words::{Book, Words};
 
 // The next candidate: clause number of a program; or there is none.
 #[derive(Clone, Copy)]
@@ -17,15 +18,14 @@ pub enum Candidate {
 }
 
 // The first candidate of the question's own run.
-fn own_first(book: &[u8], ws: &[u32], f: u32, m: u32) -> Candidate
-    requires readable { Readable book.now }
-    requires own_ready { OwnReady book.now 0 × (length ws.now ≡ 16384) × AllIndexed book.now ws.now }
+fn own_first(book: &Book, ws: &Words, f: u32, m: u32) -> Candidate
+    requires own_ready { OwnReady book.now.bytes.now 0 × AllIndexed book.now.bytes.now ws.now }
     requires f_bound { (f < 65536) × (m < 65536) }
-    ensures { result ≡ own_candidate book.now f m 0 }
+    ensures { result ≡ own_candidate book.now.bytes.now f m 0 }
 {
-    let last = (book.len() / 16 - 1) as u32;
-    let first = words::field(book, last, 1);
-    let n = words::field(book, last, 2);
+    let last = book.last();
+    let first = book.field(last, 1);
+    let n = book.field(last, 2);
     let j = index::first_match(book, ws, first, n, f, m);
     if j < n {
         return Candidate::At(0, j);
@@ -34,16 +34,15 @@ fn own_first(book: &[u8], ws: &[u32], f: u32, m: u32) -> Candidate
 }
 
 // The next candidate of the question's own run after clause i, which is one.
-fn own_after(book: &[u8], ws: &[u32], i: u32, f: u32, m: u32) -> Candidate
-    requires readable { Readable book.now }
-    requires own_ready { OwnReady book.now 0 × (length ws.now ≡ 16384) × AllIndexed book.now ws.now }
+fn own_after(book: &Book, ws: &Words, i: u32, f: u32, m: u32) -> Candidate
+    requires own_ready { OwnReady book.now.bytes.now 0 × AllIndexed book.now.bytes.now ws.now }
     requires f_bound { (f < 65536) × (m < 65536) }
-    requires own_matches { OwnMatches book.now f m i }
-    ensures { result ≡ own_candidate book.now f m (i + 1) }
+    requires own_matches { OwnMatches book.now.bytes.now f m i }
+    ensures { result ≡ own_candidate book.now.bytes.now f m (i + 1) }
 {
-    let last = (book.len() / 16 - 1) as u32;
-    let first = words::field(book, last, 1);
-    let n = words::field(book, last, 2);
+    let last = book.last();
+    let first = book.field(last, 1);
+    let n = book.field(last, 2);
     let j = index::match_after(book, ws, first, n, i, f, m);
     if j < n {
         return Candidate::At(0, j);
@@ -69,18 +68,18 @@ fn head_rest(f: u32, m: u32) -> u32
 }
 
 // Forgets what the memo has in its first n words, whole entries. An answer's variables are numbered in words that the memo uses while the run searches, and must find zeros there.
-pub fn forget(ws: &mut [u32], n: u32)
-    requires { (n ≤ 2048) × (length ws.old ≡ 16384) }
+pub fn forget(ws: &mut Words, n: u32)
+    requires { n ≤ 2048 }
     ensures { ws.new ≡ forget_words n ws.old }
 {
     words::clear_words(ws, 13568, n + n % 2);
 }
 
 // What the memo has of the search from program q on: the word found, and 1; 0 if it has nothing.
-fn known(book: &[u8], ws: &[u32], top: u32, half: u32, q: u32, f: u32, m: u32) -> u32
-    requires ws_len { (length ws.now ≡ 16384) × (0 < q) × (q < top) × (top ≤ 514) × (half ≤ 1) × (f < 65536) × (m ≤ 8) }
-    requires by_index { (left : ℕ) × Memo book.now ws.now top left }
-    ensures { (result < 131072) × (0 < result → Finds book.now ws.now q f m (result - 1)) }
+fn known(book: &Book, ws: &Words, top: u32, half: u32, q: u32, f: u32, m: u32) -> u32
+    requires ws_len { (0 < q) × (q < top) × (top ≤ 514) × (half ≤ 1) × (f < 65536) × (m ≤ 8) }
+    requires by_index { (left : ℕ) × Memo book.now.bytes.now ws.now top left }
+    ensures { (result < 131072) × (0 < result → Finds book.now.bytes.now ws.now q f m (result - 1)) }
 {
     let mark = ws[(8200 + 3 * q + 2) as usize];
     let e = entry_at(mark, half, f);
@@ -95,8 +94,8 @@ fn known(book: &[u8], ws: &[u32], top: u32, half: u32, q: u32, f: u32, m: u32) -
 }
 
 // Remembers word w as what is found from program p on.
-fn remember(ws: &mut [u32], half: u32, p: u32, f: u32, m: u32, w: u32)
-    requires { (length ws.old ≡ 16384) × (p < 514) × (half ≤ 1) × (f < 65536) × (m ≤ 8) × (w < 131071) }
+fn remember(ws: &mut Words, half: u32, p: u32, f: u32, m: u32, w: u32)
+    requires { (p < 514) × (half ≤ 1) × (f < 65536) × (m ≤ 8) × (w < 131071) }
     ensures { ws.new ≡ memo_words ws.old half p f m w }
 {
     let mark = ws[(8200 + 3 * p + 2) as usize];
@@ -107,11 +106,10 @@ fn remember(ws: &mut [u32], half: u32, p: u32, f: u32, m: u32, w: u32)
 
 // The first candidate of program p, and of those before which it was put, but for the question's own run: clause j of program q as the word 128 q + j + 1;
 // 0 if there is none. What is remembered of p itself has been asked before.
-fn seek_put(book: &[u8], made: u32, ws: &[u32], top: u32, half: u32, p: u32, f: u32, m: u32) -> u32
-    requires readable { Readable book.now }
-    requires searchable { Searchable book.now ws.now made top p f m }
+fn seek_put(book: &Book, made: u32, ws: &Words, top: u32, half: u32, p: u32, f: u32, m: u32) -> u32
+    requires searchable { Searchable book.now.bytes.now ws.now made top p f m }
     requires half_bound { half ≤ 1 }
-    ensures { (result < 131071) × Finds book.now ws.now p f m result }
+    ensures { (result < 131071) × Finds book.now.bytes.now ws.now p f m result }
 {
     let mut q = p;
     while 0 < q {
@@ -135,20 +133,19 @@ fn seek_put(book: &[u8], made: u32, ws: &[u32], top: u32, half: u32, p: u32, f: 
 // The word of the first candidate from program p on, sought and remembered. What the memo has is asked for by the callers, in the loop of the run; this is called there from two places, so that it stays a function of its own,
 // and gives a word, and leaves the own run to `found`, to keep the call small.
 fn seek_anew(
-    book: &[u8],
+    book: &Book,
     made: u32,
-    ws: &mut [u32],
+    ws: &mut Words,
     top: u32,
     half: u32,
     p: u32,
     f: u32,
     m: u32,
 ) -> u32
-    requires readable { Readable book.now }
-    requires searchable { Searchable book.now ws.old made top p f m }
+    requires searchable { Searchable book.now.bytes.now ws.old made top p f m }
     requires p_nonzero { (0 < p) × (half ≤ 1) }
-    ensures finds { Finds book.now ws.old p f m result }
-    ensures memo_stays { MemoStays book.now top ws.old ws.new }
+    ensures finds { Finds book.now.bytes.now ws.old p f m result }
+    ensures memo_stays { MemoStays book.now.bytes.now top ws.old ws.new }
 {
     let w = seek_put(book, made, ws, top, half, p, f, m);
     remember(ws, half, p, f, m, w);
@@ -156,11 +153,10 @@ fn seek_anew(
 }
 
 // That word, from the memo if it has it, after a candidate, from the program on before which the candidate's was put; that may be the question's own, which was not put.
-fn seek_before(book: &[u8], made: u32, ws: &mut [u32], top: u32, p: u32, f: u32, m: u32) -> u32
-    requires readable { Readable book.now }
-    requires searchable { Searchable book.now ws.old made top p f m }
-    ensures finds { Finds book.now ws.old p f m result }
-    ensures memo_stays { MemoStays book.now top ws.old ws.new }
+fn seek_before(book: &Book, made: u32, ws: &mut Words, top: u32, p: u32, f: u32, m: u32) -> u32
+    requires searchable { Searchable book.now.bytes.now ws.old made top p f m }
+    ensures finds { Finds book.now.bytes.now ws.old p f m result }
+    ensures memo_stays { MemoStays book.now.bytes.now top ws.old ws.new }
 {
     if p == 0 {
         return 0;
@@ -173,11 +169,10 @@ fn seek_before(book: &[u8], made: u32, ws: &mut [u32], top: u32, p: u32, f: u32,
 }
 
 // The same as a first search, for any head: no program that was put has a clause that matches, unless some supposed clause is in the head's bucket.
-fn seek_programs(book: &[u8], made: u32, ws: &mut [u32], top: u32, p: u32, f: u32, m: u32) -> u32
-    requires readable { Readable book.now }
-    requires searchable { Searchable book.now ws.old made top p f m }
-    ensures finds { Finds book.now ws.old p f m result }
-    ensures memo_stays { MemoStays book.now top ws.old ws.new }
+fn seek_programs(book: &Book, made: u32, ws: &mut Words, top: u32, p: u32, f: u32, m: u32) -> u32
+    requires searchable { Searchable book.now.bytes.now ws.old made top p f m }
+    ensures finds { Finds book.now.bytes.now ws.old p f m result }
+    ensures memo_stays { MemoStays book.now.bytes.now top ws.old ws.new }
 {
     if p == 0 {
         return 0;
@@ -193,11 +188,10 @@ fn seek_programs(book: &[u8], made: u32, ws: &mut [u32], top: u32, p: u32, f: u3
 }
 
 // The candidate of word w: a clause of a program that was put, or the first one of the question's own run.
-fn found(book: &[u8], ws: &[u32], w: u32, f: u32, m: u32) -> Candidate
-    requires readable { Readable book.now }
-    requires formed { Formed book.now × OwnReady book.now 0 × AllIndexed book.now ws.now }
-    requires ws_len { (length ws.now ≡ 16384) × (f < 65536) × (m < 65536) }
-    ensures { (words : List ℕ) (made top : ℕ) (rest : List Force) → SoughtPut book.now words made top f m rest w → Sought book.now words made top f m rest result }
+fn found(book: &Book, ws: &Words, w: u32, f: u32, m: u32) -> Candidate
+    requires formed { Formed book.now.bytes.now × OwnReady book.now.bytes.now 0 × AllIndexed book.now.bytes.now ws.now }
+    requires ws_len { (f < 65536) × (m < 65536) }
+    ensures { (words : List ℕ) (made top : ℕ) (rest : List Force) → SoughtPut book.now.bytes.now words made top f m rest w → Sought book.now.bytes.now words made top f m rest result }
 {
     if 0 < w {
         return Candidate::At((w - 1) / 128, (w - 1) % 128);
@@ -207,19 +201,18 @@ fn found(book: &[u8], ws: &[u32], w: u32, f: u32, m: u32) -> Candidate
 
 // The first candidate of program p.
 pub fn seek_first(
-    book: &[u8],
+    book: &Book,
     made: u32,
-    ws: &mut [u32],
+    ws: &mut Words,
     top: u32,
     p: u32,
     f: u32,
     m: u32,
 ) -> Candidate
-    requires readable { Readable book.now }
-    requires own_ready { OwnReady book.now 0 }
-    requires searchable { Searchable book.now ws.old made top p f m }
-    ensures sought { (rest : List Force) → IsRest book.now ws.old made top p 0 rest → Sought book.now ws.old made top f m rest result }
-    ensures memo_stays { MemoStays book.now top ws.old ws.new }
+    requires own_ready { OwnReady book.now.bytes.now 0 }
+    requires searchable { Searchable book.now.bytes.now ws.old made top p f m }
+    ensures sought { (rest : List Force) → IsRest book.now.bytes.now ws.old made top p 0 rest → Sought book.now.bytes.now ws.old made top f m rest result }
+    ensures memo_stays { MemoStays book.now.bytes.now top ws.old ws.new }
 {
     let w = seek_programs(book, made, ws, top, p, f, m);
     found(book, ws, w, f, m)
@@ -227,22 +220,21 @@ pub fn seek_first(
 
 // The next candidate after clause i of program p, which is one.
 pub fn seek_after(
-    book: &[u8],
+    book: &Book,
     made: u32,
-    ws: &mut [u32],
+    ws: &mut Words,
     top: u32,
     p: u32,
     i: u32,
     f: u32,
     m: u32,
 ) -> Candidate
-    requires readable { Readable book.now }
-    requires formed { Formed book.now × OwnReady book.now 0 × AllIndexed book.now ws.old }
-    requires candidate { IsCandidate book.now ws.old made top p i f m }
-    requires ws_len { (length ws.old ≡ 16384) × (top ≤ 514) × (f < 65536) × (m ≤ 8) }
-    requires by_index { (left : ℕ) × Memo book.now ws.old top left }
-    ensures sought { (rest : List Force) → IsRest book.now ws.old made top p (i + 1) rest → Sought book.now ws.old made top f m rest result }
-    ensures memo_stays { MemoStays book.now top ws.old ws.new }
+    requires formed { Formed book.now.bytes.now × OwnReady book.now.bytes.now 0 × AllIndexed book.now.bytes.now ws.old }
+    requires candidate { IsCandidate book.now.bytes.now ws.old made top p i f m }
+    requires ws_len { (top ≤ 514) × (f < 65536) × (m ≤ 8) }
+    requires by_index { (left : ℕ) × Memo book.now.bytes.now ws.old top left }
+    ensures sought { (rest : List Force) → IsRest book.now.bytes.now ws.old made top p (i + 1) rest → Sought book.now.bytes.now ws.old made top f m rest result }
+    ensures memo_stays { MemoStays book.now.bytes.now top ws.old ws.new }
 {
     if p == 0 {
         return own_after(book, ws, i, f, m);

@@ -2,7 +2,7 @@ use Rattle.answers.proofs.AnswerLaws.{start_slots, start_words_lem, start_none, 
 use Rattle.answers.proofs.write_answer.Goals as goal
 
 pub write_terms-a-requires : goal.write_terms-a-requires
-write_terms-a-requires c = let p = c.requires in let t = p.unknowns_le_made in let e = c.put_unknowns.ensures in record { readable = p.readable; slots = start_slots _ _ _ _ p.slots t.1 p.no_numbers _ e; good_words = start_words_lem _ _ _ _ p.slots t.1 p.no_numbers _ e t.0; terms_bound = (t.1, t.2, t.3); no_numbers = start_none _ _ _ _ p.slots t.1 p.no_numbers _ e }
+write_terms-a-requires c = let p = c.requires in let t = p.unknowns_le_made in let e = c.put_unknowns.ensures in record { slots = start_slots _ _ _ _ p.slots t.1 p.no_numbers _ e; good_words = start_words_lem _ _ _ _ p.slots t.1 p.no_numbers _ e t.0; terms_bound = (t.1, t.2, t.3); no_numbers = start_none _ _ _ _ p.slots t.1 p.no_numbers _ e }
 
 pub returns-in-Written : goal.returns-in-Written
 returns-in-Written c = let p = c.requires in let t = p.unknowns_le_made in let e = c.put_unknowns.ensures in

@@ -22,7 +22,7 @@ slice_bounds-write_line-count c = let p = c.requires in let i = c.loop-n.invaria
 
 pub write_line-requires : goal.write_line-requires
 write_line-requires c = let p = c.requires in let t = p.terms_bound in let i = c.loop-n.invariant in
-    let s = next_small _ _ _ _ _ _ _ p.slots t.1 _ _ _ _ _ i t.2 in record { readable = p.readable; slots = inv_slots _ _ _ _ _ _ _ p.slots t.1 _ _ _ _ _ i; good_words = i.words; n_nonzero = (c.loop-n-test.true, i.most, omega arith, part_room _ _ _ _ _ _ _ p.slots t.1 _ _ _ _ _ i c.if-out-end-lt8.false); by_index = (i.seen, i.numbered) }
+    let s = next_small _ _ _ _ _ _ _ p.slots t.1 _ _ _ _ _ i t.2 in record { slots = inv_slots _ _ _ _ _ _ _ p.slots t.1 _ _ _ _ _ i; good_words = i.words; n_nonzero = (c.loop-n-test.true, i.most, omega arith, part_room _ _ _ _ _ _ _ p.slots t.1 _ _ _ _ _ i c.if-out-end-lt8.false); by_index = (i.seen, i.numbered) }
 
 pub shape_of-ws-in-Full : goal.shape_of-ws-in-Full
 shape_of-ws-in-Full c = let p = c.requires in let i = c.loop-n.invariant in (inv_full _ _ _ _ _ _ _ p.slots p.terms_bound.1 _ _ _ _ _ i c.if-out-end-lt8.false _ _ _ c.write_line.ensures c.in-Full.is).apart.low.size

@@ -10,10 +10,10 @@ pub loop-i-init : goal.loop-i-init
 loop-i-init c = (omega arith, c.requires.n_bound.3, ties_none _ _ _ _ _ _)
 
 pub field-o-requires : goal.field-o-requires
-field-o-requires c = let p = c.requires in record { readable = p.readable; r_bound = (tie_at _ _ _ _ _ _ (c.loop-i.i - 1) p.tie_run (omega arith)).0; k_bound = search rules }
+field-o-requires c = let p = c.requires in record { r_bound = (tie_at _ _ _ _ _ _ (c.loop-i.i - 1) p.tie_run (omega arith)).0; k_bound = search rules }
 
 pub field-q-requires : goal.field-q-requires
-field-q-requires c = let p = c.requires in record { readable = p.readable; r_bound = (tie_at _ _ _ _ _ _ (c.loop-i.i - 1) p.tie_run (omega arith)).0; k_bound = search rules }
+field-q-requires c = let p = c.requires in record { r_bound = (tie_at _ _ _ _ _ _ (c.loop-i.i - 1) p.tie_run (omega arith)).0; k_bound = search rules }
 
 pub overflow_add-at : goal.overflow_add-at
 overflow_add-at c = let p = c.requires in omega (arith, c.field-o.ensures.1, p.n_bound.0)

@@ -13,18 +13,18 @@ overflow_sub-last c = omega (arith, c.requires.formed.1.some)
 
 pub field-first-requires : goal.field-first-requires
 unfolding records last_record
-field-first-requires c = let p = c.requires in record { readable = p.readable; r_bound = last_in _ p.readable _ p.formed.1 _ 0 0 refl; k_bound = search rules }
+field-first-requires c = let p = c.requires in record { r_bound = last_in _ c.args.book.now.readable _ p.formed.1 _ 0 0 refl; k_bound = search rules }
 
 pub field-n-requires : goal.field-n-requires
 unfolding records last_record
-field-n-requires c = let p = c.requires in record { readable = p.readable; r_bound = last_in _ p.readable _ p.formed.1 _ 0 0 refl; k_bound = search rules }
+field-n-requires c = let p = c.requires in record { r_bound = last_in _ c.args.book.now.readable _ p.formed.1 _ 0 0 refl; k_bound = search rules }
 
 pub loop-rules-init : goal.loop-rules-init
 loop-rules-init c = let p = c.requires in (loop_start _ _ _, omega arith, p.goal_bound.0)
 
 pub plain_body-b-requires : goal.plain_body-b-requires
 unfolding records last_record
-plain_body-b-requires c = let p = c.requires in record { readable = p.readable; formed = p.formed; first_value = (c.field-first.ensures.0, c.field-n.ensures.0); g_bound = (c.loop-rules.invariant.2, p.goal_bound.1) }
+plain_body-b-requires c = let p = c.requires in record { formed = p.formed; first_value = (c.field-first.ensures.0, c.field-n.ensures.0); g_bound = (c.loop-rules.invariant.2, p.goal_bound.1) }
 
 pub returns-then-b-eq0 : goal.returns-then-b-eq0
 returns-then-b-eq0 c = let i = c.loop-rules.invariant in loop_none _ _ _ _ (sym c.plain_body-b.ensures ∙ c.if-b-eq0.true) c.loop-rules-test.true ∙ i.0

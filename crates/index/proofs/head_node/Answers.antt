@@ -25,10 +25,10 @@ pub overflow_add-first : goal.overflow_add-first
 overflow_add-first c = let p = c.requires.first_bound in omega (arith, p.0, p.1, c.loop-z-test.true)
 
 pub field-c-requires : goal.field-c-requires
-field-c-requires c = let p = c.requires in record { readable = p.readable; r_bound = (p.clause_run _ c.loop-z-test.true).0; k_bound = search rules }
+field-c-requires c = let p = c.requires in record { r_bound = (p.clause_run _ c.loop-z-test.true).0; k_bound = search rules }
 
 pub head_matches-requires : goal.head_matches-requires
-head_matches-requires c = let p = c.requires in let x = p.clause_run _ c.loop-z-test.true in record { readable = p.readable; c_bound = rw c.field-c.ensures.0 (x.1, x.2); f_bound = (p.first_bound.3, p.first_bound.4) }
+head_matches-requires c = let p = c.requires in let x = p.clause_run _ c.loop-z-test.true in record { c_bound = rw c.field-c.ensures.0 (x.1, x.2); f_bound = (p.first_bound.3, p.first_bound.4) }
 
 pub returns-then-head_matches : goal.returns-then-head_matches
 returns-then-head_matches c = λ i a L. list_here_found _ _ _ _ _ i _ _ _ (c.loop-z.invariant i a L) c.loop-z-test.true c.field-c.ensures.0 c.head_matches.ensures c.if-head_matches.true

@@ -14,7 +14,7 @@ pub overflow_sub-i : goal.overflow_sub-i
 overflow_sub-i c = omega (arith, c.loop-i-test.true)
 
 pub enter_own-requires : goal.enter_own-requires
-enter_own-requires c = let p = c.requires in let z : c.loop-i.i ≡ c.loop-i.i - 1 + 1 = omega (arith, c.loop-i-test.true) in let I = rw z at c.loop-i.invariant.2 in record { readable = p.readable; clause_run = p.clause_run; i_lt_n = (omega (arith, c.loop-i-test.true, c.loop-i.invariant.0), p.first_bound.0, p.first_bound.1, c.loop-i.invariant.1); indexed_from = made_here _ _ _ _ _ _ I }
+enter_own-requires c = let p = c.requires in let z : c.loop-i.i ≡ c.loop-i.i - 1 + 1 = omega (arith, c.loop-i-test.true) in let I = rw z at c.loop-i.invariant.2 in record { clause_run = p.clause_run; i_lt_n = (omega (arith, c.loop-i-test.true, c.loop-i.invariant.0), p.first_bound.0, p.first_bound.1, c.loop-i.invariant.1); indexed_from = made_here _ _ _ _ _ _ I }
 
 pub loop-i-smaller : goal.loop-i-smaller
 loop-i-smaller c = omega (arith, c.loop-i-test.true)

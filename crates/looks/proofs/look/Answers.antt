@@ -14,22 +14,22 @@ overflow_sub-r c = omega (arith, c.requires.good_term.large)
 
 pub field-m-requires : goal.field-m-requires
 unfolding rec_of
-field-m-requires c = let p = c.requires in record { readable = p.readable; r_bound = p.good_term.term.0; k_bound = search rules }
+field-m-requires c = let p = c.requires in record { r_bound = p.good_term.term.0; k_bound = search rules }
 
 pub returns-then-m-eq0 : goal.returns-then-m-eq0
 unfolding rec_of
-returns-then-m-eq0 c = let p = c.requires in record { keeps = keeps_refl _ _ _; look_went = look_bare _ _ _ p.slots _ _ _ p.readable p.good_term c.if-left-eq0.false _ c.field-m.ensures.0 c.if-m-eq0.true }
+returns-then-m-eq0 c = let p = c.requires in record { keeps = keeps_refl _ _ _; look_went = look_bare _ _ _ p.slots _ _ _ c.args.book.now.readable p.good_term c.if-left-eq0.false _ c.field-m.ensures.0 c.if-m-eq0.true }
 
 pub field-first-requires : goal.field-first-requires
 unfolding rec_of
-field-first-requires c = let p = c.requires in record { readable = p.readable; r_bound = p.good_term.term.0; k_bound = search rules }
+field-first-requires c = let p = c.requires in record { r_bound = p.good_term.term.0; k_bound = search rules }
 
 pub overflow_sub-more : goal.overflow_sub-more
 overflow_sub-more c = omega (arith, c.if-left-eq0.false)
 
 pub loop-more-init : goal.loop-more-init
 unfolding rec_of base_of
-loop-more-init c = let p = c.requires in (omega (arith, c.if-left-eq0.false), inv_start _ _ _ p.slots _ _ _ p.readable p.good_term c.if-left-eq0.false _ c.field-m.ensures.0 _ c.field-first.ensures.0 c.if-m-eq0.false _ (omega (arith, c.if-left-eq0.false)))
+loop-more-init c = let p = c.requires in (omega (arith, c.if-left-eq0.false), inv_start _ _ _ p.slots _ _ _ c.args.book.now.readable p.good_term c.if-left-eq0.false _ c.field-m.ensures.0 _ c.field-first.ensures.0 c.if-m-eq0.false _ (omega (arith, c.if-left-eq0.false)))
 
 pub shape_of-ws-then-more-eq0 : goal.shape_of-ws-then-more-eq0
 shape_of-ws-then-more-eq0 c = c.loop-more.invariant.1.keeps.size
@@ -40,7 +40,7 @@ returns-then-more-eq0 c = let p = c.requires in let i = c.loop-more.invariant.1 
 pub look_step-requires : goal.look_step-requires
 unfolding rec_of
 look_step-requires c = let p = c.requires in
-    let i = c.loop-more.invariant.1 in record { readable = p.readable; slots = inv_slots _ _ _ p.slots _ _ _ _ _ _ i; listed = i.listed; v_nonzero = (p.v_nonzero, record { start = c.field-first.ensures.0; many = c.field-m.ensures.0; some = omega (arith, c.if-m-eq0.false) }) }
+    let i = c.loop-more.invariant.1 in record { slots = inv_slots _ _ _ p.slots _ _ _ _ _ _ i; listed = i.listed; v_nonzero = (p.v_nonzero, record { start = c.field-first.ensures.0; many = c.field-m.ensures.0; some = omega (arith, c.if-m-eq0.false) }) }
 
 pub overflow_sub-result : goal.overflow_sub-result
 overflow_sub-result c = c.loop-more.invariant.0

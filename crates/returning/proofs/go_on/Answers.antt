@@ -12,7 +12,7 @@ pub overflow_sub-left : goal.overflow_sub-left
 overflow_sub-left c = let p = c.requires in (clause_asked _ _ _ _ p.can_go_on c.in-Clause.is).0
 
 pub try_all-s-requires : goal.try_all-s-requires
-try_all-s-requires c = let p = c.requires in let s = clause_asked _ _ _ _ p.can_go_on c.in-Clause.is in record { readable = p.readable; accepted = (p.accepted, s.1); to_clause = s.2; memo = memo_asked _ _ _ _ _ _ _ c.in-Clause.is p.memo_reached }
+try_all-s-requires c = let p = c.requires in let s = clause_asked _ _ _ _ p.can_go_on c.in-Clause.is in record { accepted = (p.accepted, s.1); to_clause = s.2; memo = memo_asked _ _ _ _ _ _ _ c.in-Clause.is p.memo_reached }
 
 pub later-requires : goal.later-requires
 later-requires c = let p = c.requires in let s = clause_asked _ _ _ _ p.can_go_on c.in-Clause.is in let h : c.args.left < 4294967296 = search rules in let u = units_most (c.try_all-s.ensures.tries (regs_gone c.in-Clause.x 0) s.2.0 refl s.2.1) in omega (arith, u, s.0, h)

@@ -14,46 +14,46 @@ overflow_sub-last c = omega (arith, (own_ready _ c.requires.accepted).some)
 
 pub field-first-requires : goal.field-first-requires
 unfolding records last_record
-field-first-requires c = let p = c.requires in record { readable = p.readable; r_bound = last_in _ p.readable _ (own_ready _ p.accepted) _ 0 0 refl; k_bound = search rules }
+field-first-requires c = let p = c.requires in record { r_bound = last_in _ c.args.book.now.readable _ (own_ready _ p.accepted) _ 0 0 refl; k_bound = search rules }
 
 pub overflow_add-first : goal.overflow_add-first
 unfolding records last_record
-overflow_add-first c = let p = c.requires in let z = own_link _ p.readable p.accepted _ _ _ _ _ _ _ p.leads.clause c.if-x-eq0.true _ _ refl c.field-first.ensures.0 in omega (arith, (in_book _ p.readable _ z).1)
+overflow_add-first c = let p = c.requires in let z = own_link _ c.args.book.now.readable p.accepted _ _ _ _ _ _ _ p.leads.clause c.if-x-eq0.true _ _ refl c.field-first.ensures.0 in omega (arith, (in_book _ c.args.book.now.readable _ z).1)
 
 pub field-c-requires : goal.field-c-requires
 unfolding records last_record
-field-c-requires c = let p = c.requires in record { readable = p.readable; r_bound = own_link _ p.readable p.accepted _ _ _ _ _ _ _ p.leads.clause c.if-x-eq0.true _ _ refl c.field-first.ensures.0; k_bound = search rules }
+field-c-requires c = let p = c.requires in record { r_bound = own_link _ c.args.book.now.readable p.accepted _ _ _ _ _ _ _ p.leads.clause c.if-x-eq0.true _ _ refl c.field-first.ensures.0; k_bound = search rules }
 
 pub returns-then-x-eq0 : goal.returns-then-x-eq0
 unfolding records last_record
-returns-then-x-eq0 c = let p = c.requires in own_place _ p.readable p.accepted _ _ _ _ _ _ _ p.leads.clause c.if-x-eq0.true _ _ _ refl c.field-first.ensures.0 c.field-c.ensures.0
+returns-then-x-eq0 c = let p = c.requires in own_place _ c.args.book.now.readable p.accepted _ _ _ _ _ _ _ p.leads.clause c.if-x-eq0.true _ _ _ refl c.field-first.ensures.0 c.field-c.ensures.0
 
 pub overflow_mul-w : goal.overflow_mul-w
-overflow_mul-w c = let p = c.requires in omega (arith, put_top _ p.readable p.accepted _ _ _ _ _ _ _ p.leads.clause (omega (arith, c.if-x-eq0.false)), p.leads.few)
+overflow_mul-w c = let p = c.requires in omega (arith, put_top _ c.args.book.now.readable p.accepted _ _ _ _ _ _ _ p.leads.clause (omega (arith, c.if-x-eq0.false)), p.leads.few)
 
 pub overflow_add-w : goal.overflow_add-w
-overflow_add-w c = let p = c.requires in omega (arith, put_top _ p.readable p.accepted _ _ _ _ _ _ _ p.leads.clause (omega (arith, c.if-x-eq0.false)), p.leads.few)
+overflow_add-w c = let p = c.requires in omega (arith, put_top _ c.args.book.now.readable p.accepted _ _ _ _ _ _ _ p.leads.clause (omega (arith, c.if-x-eq0.false)), p.leads.few)
 
 pub overflow_cast-w : goal.overflow_cast-w
-overflow_cast-w c = let p = c.requires in omega (arith, put_top _ p.readable p.accepted _ _ _ _ _ _ _ p.leads.clause (omega (arith, c.if-x-eq0.false)), p.leads.few)
+overflow_cast-w c = let p = c.requires in omega (arith, put_top _ c.args.book.now.readable p.accepted _ _ _ _ _ _ _ p.leads.clause (omega (arith, c.if-x-eq0.false)), p.leads.few)
 
 pub offset_bounds-ws-x : goal.offset_bounds-ws-x
-offset_bounds-ws-x c = let p = c.requires in omega (arith, put_top _ p.readable p.accepted _ _ _ _ _ _ _ p.leads.clause (omega (arith, c.if-x-eq0.false)), p.leads.few)
+offset_bounds-ws-x c = let p = c.requires in omega (arith, put_top _ c.args.book.now.readable p.accepted _ _ _ _ _ _ _ p.leads.clause (omega (arith, c.if-x-eq0.false)), p.leads.few)
 
 pub bounds-ws-x : goal.bounds-ws-x
-bounds-ws-x c = let p = c.requires in omega (arith, put_top _ p.readable p.accepted _ _ _ _ _ _ _ p.leads.clause (omega (arith, c.if-x-eq0.false)), p.leads.few, p.leads.size)
+bounds-ws-x c = let p = c.requires in omega (arith, put_top _ c.args.book.now.readable p.accepted _ _ _ _ _ _ _ p.leads.clause (omega (arith, c.if-x-eq0.false)), p.leads.few, p.leads.size)
 
 pub overflow_sub-w : goal.overflow_sub-w
-overflow_sub-w c = let p = c.requires in omega (arith, put_large _ p.readable p.accepted _ _ _ _ _ _ _ p.leads.clause (omega (arith, c.if-x-eq0.false)))
+overflow_sub-w c = let p = c.requires in omega (arith, put_large _ c.args.book.now.readable p.accepted _ _ _ _ _ _ _ p.leads.clause (omega (arith, c.if-x-eq0.false)))
 
 pub field-first-requires-2 : goal.field-first-requires-2
-field-first-requires-2 c = let p = c.requires in record { readable = p.readable; r_bound = put_inside _ p.readable p.accepted _ _ _ _ _ _ _ p.leads.clause (omega (arith, c.if-x-eq0.false)) _ refl; k_bound = search rules }
+field-first-requires-2 c = let p = c.requires in record { r_bound = put_inside _ c.args.book.now.readable p.accepted _ _ _ _ _ _ _ p.leads.clause (omega (arith, c.if-x-eq0.false)) _ refl; k_bound = search rules }
 
 pub overflow_add-first-2 : goal.overflow_add-first-2
-overflow_add-first-2 c = let p = c.requires in let z = put_link _ p.readable p.accepted _ _ _ _ _ _ _ p.leads.clause (omega (arith, c.if-x-eq0.false)) _ _ refl c.field-first-2.ensures.0 in omega (arith, (in_book _ p.readable _ z).1)
+overflow_add-first-2 c = let p = c.requires in let z = put_link _ c.args.book.now.readable p.accepted _ _ _ _ _ _ _ p.leads.clause (omega (arith, c.if-x-eq0.false)) _ _ refl c.field-first-2.ensures.0 in omega (arith, (in_book _ c.args.book.now.readable _ z).1)
 
 pub field-c-requires-2 : goal.field-c-requires-2
-field-c-requires-2 c = let p = c.requires in record { readable = p.readable; r_bound = put_link _ p.readable p.accepted _ _ _ _ _ _ _ p.leads.clause (omega (arith, c.if-x-eq0.false)) _ _ refl c.field-first-2.ensures.0; k_bound = search rules }
+field-c-requires-2 c = let p = c.requires in record { r_bound = put_link _ c.args.book.now.readable p.accepted _ _ _ _ _ _ _ p.leads.clause (omega (arith, c.if-x-eq0.false)) _ _ refl c.field-first-2.ensures.0; k_bound = search rules }
 
 pub returns : goal.returns
-returns c = let p = c.requires in put_place _ p.readable p.accepted _ _ _ _ _ _ _ p.leads.clause (omega (arith, c.if-x-eq0.false)) _ _ _ refl c.field-first-2.ensures.0 c.field-c-2.ensures.0
+returns c = let p = c.requires in put_place _ c.args.book.now.readable p.accepted _ _ _ _ _ _ _ p.leads.clause (omega (arith, c.if-x-eq0.false)) _ _ _ refl c.field-first-2.ensures.0 c.field-c-2.ensures.0

@@ -11,15 +11,15 @@ overflow_sub-last c = omega (arith, c.requires.own_ready.0.some)
 
 pub field-first-requires : goal.field-first-requires
 unfolding records last_record
-field-first-requires c = let p = c.requires in record { readable = p.readable; r_bound = last_in _ p.readable _ p.own_ready.0 _ 0 0 refl; k_bound = search rules }
+field-first-requires c = let p = c.requires in record { r_bound = last_in _ c.args.book.now.readable _ p.own_ready.0 _ 0 0 refl; k_bound = search rules }
 
 pub field-n-requires : goal.field-n-requires
 unfolding records last_record
-field-n-requires c = let p = c.requires in record { readable = p.readable; r_bound = last_in _ p.readable _ p.own_ready.0 _ 0 0 refl; k_bound = search rules }
+field-n-requires c = let p = c.requires in record { r_bound = last_in _ c.args.book.now.readable _ p.own_ready.0 _ 0 0 refl; k_bound = search rules }
 
 pub match_after-j-requires : goal.match_after-j-requires
 unfolding records last_record
-match_after-j-requires c = let p = c.requires in let x = own_run_ready _ p.readable _ p.own_ready.0 _ _ _ refl _ p.own_ready.1 p.own_ready.2 c.field-first.ensures.0 c.field-n.ensures.0 in let y = own_match_here _ p.readable _ p.own_ready.0 _ _ _ refl _ _ _ p.own_matches c.field-first.ensures.0 c.field-n.ensures.0 in record { readable = p.readable; clause_run = x.0; i_lt_n = (y.0, x.1.0.0, x.1.0.1, x.1.0.2); indexed = x.1.1; f_bound = p.f_bound; i_value = y.1 }
+match_after-j-requires c = let p = c.requires in let x = own_run_ready _ c.args.book.now.readable _ p.own_ready.0 _ _ _ refl _ p.own_ready.1 p.own_ready.2 c.field-first.ensures.0 c.field-n.ensures.0 in let y = own_match_here _ c.args.book.now.readable _ p.own_ready.0 _ _ _ refl _ _ _ p.own_matches c.field-first.ensures.0 c.field-n.ensures.0 in record { clause_run = x.0; i_lt_n = (y.0, x.1.0.0, x.1.0.1, x.1.0.2); indexed = x.1.1; f_bound = p.f_bound; i_value = y.1 }
 
 pub returns-then-j-n : goal.returns-then-j-n
 unfolding records last_record

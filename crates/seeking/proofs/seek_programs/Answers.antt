@@ -17,11 +17,11 @@ pub returns-then-v-gt0 : goal.returns-then-v-gt0
 returns-then-v-gt0 c = record { finds = c.known-v.ensures.1 c.if-v-gt0.true; memo_stays = stays_none _ _ _ }
 
 pub seek_anew-requires : goal.seek_anew-requires
-seek_anew-requires c = let p = c.requires in let y = c.if-p-eq0.false in record { readable = p.readable; searchable = p.searchable; p_nonzero = (omega arith, omega arith) }
+seek_anew-requires c = let p = c.requires in let y = c.if-p-eq0.false in record { searchable = p.searchable; p_nonzero = (omega arith, omega arith) }
 
 pub returns-then-is_supposed : goal.returns-then-is_supposed
 returns-then-is_supposed c = record { finds = c.seek_anew.ensures.finds; memo_stays = c.seek_anew.ensures.memo_stays }
 
 pub returns : goal.returns
 returns c = let p = c.requires in
-    let e = sym c.is_supposed.ensures ∙ c.if-is_supposed.false in record { finds = (λ md tp rest z. unmarked _ p.readable p.searchable.formed _ _ _ p.searchable.indexed.supposed e _ _ _ _ rest (λ x. refl) z); memo_stays = stays_none _ _ _ }
+    let e = sym c.is_supposed.ensures ∙ c.if-is_supposed.false in record { finds = (λ md tp rest z. unmarked _ c.args.book.now.readable p.searchable.formed _ _ _ p.searchable.indexed.supposed e _ _ _ _ rest (λ x. refl) z); memo_stays = stays_none _ _ _ }

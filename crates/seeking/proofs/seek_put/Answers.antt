@@ -24,11 +24,11 @@ pub bounds-ws-at : goal.bounds-ws-at
 bounds-ws-at c = let x = put_at_lem c.loop-q-test.true c.loop-q.invariant.0.1 in let p = c.requires in omega (arith, x.below, p.searchable.size, p.searchable.few)
 
 pub overflow_sub-s : goal.overflow_sub-s
-overflow_sub-s c = let x = put_at_lem c.loop-q-test.true c.loop-q.invariant.0.1 in let p = c.requires in omega (arith, word_large _ p.readable p.searchable.formed _ _ _ _ _ _ x)
+overflow_sub-s c = let x = put_at_lem c.loop-q-test.true c.loop-q.invariant.0.1 in let p = c.requires in omega (arith, word_large _ c.args.book.now.readable p.searchable.formed _ _ _ _ _ _ x)
 
 pub first_of-j-requires : goal.first_of-j-requires
 first_of-j-requires c = let x = put_at_lem c.loop-q-test.true c.loop-q.invariant.0.1 in let p = c.requires in let S = p.searchable in
-    let y = goal_ready _ p.readable p.searchable.formed _ _ _ _ _ _ x in record { readable = p.readable; formed = (S.formed, S.indexed.supposed); s_bound = (y.0, y.1, S.symbol, omega (arith, S.count), S.size) }
+    let y = goal_ready _ c.args.book.now.readable p.searchable.formed _ _ _ _ _ _ x in record { formed = (S.formed, S.indexed.supposed); s_bound = (y.0, y.1, S.symbol, omega (arith, S.count), S.size) }
 
 pub overflow_mul-result : goal.overflow_mul-result
 overflow_mul-result c = let x = put_at_lem c.loop-q-test.true c.loop-q.invariant.0.1 in omega (arith, x.below, c.requires.searchable.few)
@@ -43,7 +43,7 @@ returns-then-j-gt0 c = let p = c.requires in
       λ md tp rest₀ z.
           let i = c.loop-q.invariant.1 md tp rest₀ z in
           let y = put_at_lem c.loop-q-test.true i.1 in
-          put_here {q = c.loop-q.q} {i = c.first_of-j.result - 1} {w = 128 * c.loop-q.q + c.first_of-j.result} (omega (arith, c.if-j-gt0.true)) (omega (arith, c.first_of-j.ensures.1)) (sought_as i.2 (first_here _ p.readable p.searchable.formed _ _ _ _ _ y _ _ _ c.first_of-j.ensures.0 c.if-j-gt0.true)),
+          put_here {q = c.loop-q.q} {i = c.first_of-j.result - 1} {w = 128 * c.loop-q.q + c.first_of-j.result} (omega (arith, c.if-j-gt0.true)) (omega (arith, c.first_of-j.ensures.1)) (sought_as i.2 (first_here _ c.args.book.now.readable p.searchable.formed _ _ _ _ _ y _ _ _ c.first_of-j.ensures.0 c.if-j-gt0.true)),
     )
 
 pub overflow_add-q : goal.overflow_add-q
@@ -64,7 +64,7 @@ returns-then-v-gt0 c = let p = c.requires in (
   λ md tp rest₀ z.
       let i = c.loop-q.invariant.1 md tp rest₀ z in
       let y = put_at_lem c.loop-q-test.true i.1 in
-      put_as (sym (first_none _ p.readable p.searchable.formed _ _ _ _ _ y _ _ _ c.first_of-j.ensures.0 c.if-j-gt0.false) ∙ i.2) (c.known-v.ensures.1 c.if-v-gt0.true md tp y.program (rw y.link y.before)),
+      put_as (sym (first_none _ c.args.book.now.readable p.searchable.formed _ _ _ _ _ y _ _ _ c.first_of-j.ensures.0 c.if-j-gt0.false) ∙ i.2) (c.known-v.ensures.1 c.if-v-gt0.true md tp y.program (rw y.link y.before)),
 )
 
 pub loop-q-smaller-else-v-gt0 : goal.loop-q-smaller-else-v-gt0
@@ -77,7 +77,7 @@ loop-q-preserved-else-v-gt0 c = let p = c.requires in
       λ md tp rest₀ z.
           let i = c.loop-q.invariant.1 md tp rest₀ z in
           let y = put_at_lem c.loop-q-test.true i.1 in
-          (y.program, rw y.link y.before, sym (first_none _ p.readable p.searchable.formed _ _ _ _ _ y _ _ _ c.first_of-j.ensures.0 c.if-j-gt0.false) ∙ i.2),
+          (y.program, rw y.link y.before, sym (first_none _ c.args.book.now.readable p.searchable.formed _ _ _ _ _ y _ _ _ c.first_of-j.ensures.0 c.if-j-gt0.false) ∙ i.2),
     )
 
 pub loop-q-smaller : goal.loop-q-smaller
@@ -90,7 +90,7 @@ loop-q-preserved c = let p = c.requires in
       λ md tp rest₀ z.
           let i = c.loop-q.invariant.1 md tp rest₀ z in
           let y = put_at_lem c.loop-q-test.true i.1 in
-          (y.program, rw y.link y.before, sym (first_none _ p.readable p.searchable.formed _ _ _ _ _ y _ _ _ c.first_of-j.ensures.0 c.if-j-gt0.false) ∙ i.2),
+          (y.program, rw y.link y.before, sym (first_none _ c.args.book.now.readable p.searchable.formed _ _ _ _ _ y _ _ _ c.first_of-j.ensures.0 c.if-j-gt0.false) ∙ i.2),
     )
 
 pub returns : goal.returns

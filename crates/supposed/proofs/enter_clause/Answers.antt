@@ -5,20 +5,20 @@ use Rattle.supposed.proofs.NoteWords.{enter_written}
 use Rattle.supposed.proofs.enter_clause.Goals as goal
 
 pub field-c-requires : goal.field-c-requires
-field-c-requires c = let p = c.requires in record { readable = p.readable; r_bound = (p.clause_run _ p.i_lt_n.0).0; k_bound = omega arith }
+field-c-requires c = let p = c.requires in record { r_bound = (p.clause_run _ p.i_lt_n.0).0; k_bound = omega arith }
 
 pub field-h-requires : goal.field-h-requires
-field-h-requires c = let p = c.requires in record { readable = p.readable; r_bound = rw c.field-c.ensures.0 (p.clause_run _ p.i_lt_n.0).1; k_bound = omega arith }
+field-h-requires c = let p = c.requires in record { r_bound = rw c.field-c.ensures.0 (p.clause_run _ p.i_lt_n.0).1; k_bound = omega arith }
 
 pub field-f-requires : goal.field-f-requires
-field-f-requires c = let p = c.requires in record { readable = p.readable; r_bound = rw (c.field-h.ensures.0, c.field-c.ensures.0) (p.clause_run _ p.i_lt_n.0).2; k_bound = omega arith }
+field-f-requires c = let p = c.requires in record { r_bound = rw (c.field-h.ensures.0, c.field-c.ensures.0) (p.clause_run _ p.i_lt_n.0).2; k_bound = omega arith }
 
 pub field-m-requires : goal.field-m-requires
-field-m-requires c = let p = c.requires in record { readable = p.readable; r_bound = rw (c.field-h.ensures.0, c.field-c.ensures.0) (p.clause_run _ p.i_lt_n.0).2; k_bound = omega arith }
+field-m-requires c = let p = c.requires in record { r_bound = rw (c.field-h.ensures.0, c.field-c.ensures.0) (p.clause_run _ p.i_lt_n.0).2; k_bound = omega arith }
 
 pub note-requires : goal.note-requires
 note-requires c = let p = c.requires in
-    (rw c.field-c.ensures.0 (in_book _ p.readable _ (p.clause_run _ p.i_lt_n.0).1).1, rw c.note_of-next.ensures (note_small _ _), p.i_lt_n.3)
+    (rw c.field-c.ensures.0 (in_book _ c.args.book.now.readable _ (p.clause_run _ p.i_lt_n.0).1).1, rw c.note_of-next.ensures (note_small _ _), p.i_lt_n.3)
 
 pub returns : goal.returns
 returns c =

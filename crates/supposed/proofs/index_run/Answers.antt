@@ -13,7 +13,7 @@ pub overflow_sub-i : goal.overflow_sub-i
 overflow_sub-i c = omega (arith, c.loop-i-test.true)
 
 pub enter_clause-requires : goal.enter_clause-requires
-enter_clause-requires c = let p = c.requires in let i = c.loop-i.invariant in record { readable = p.readable; clause_run = p.clause_run; i_lt_n = (omega (arith, i.0, c.loop-i-test.true), p.n_bound.0, p.n_bound.1, i.1) }
+enter_clause-requires c = let p = c.requires in let i = c.loop-i.invariant in record { clause_run = p.clause_run; i_lt_n = (omega (arith, i.0, c.loop-i-test.true), p.n_bound.0, p.n_bound.1, i.1) }
 
 pub loop-i-smaller : goal.loop-i-smaller
 loop-i-smaller c = omega (arith, c.loop-i-test.true)

@@ -6,27 +6,27 @@ use Rattle.supposed.proofs.index_supposed.Goals as goal
 use Rattle.supposed.proofs.index_supposed.Goals.{then-field-eq7, else-field-eq7}
 
 pub overflow_cast-n : goal.overflow_cast-n
-overflow_cast-n c = omega (arith, c.requires.readable.size)
+overflow_cast-n c = omega (arith, c.args.book.now.readable.size)
 
 pub loop-s-init : goal.loop-s-init
-loop-s-init c = (omega arith, c.requires.ws_len, supposed_none _ _)
+loop-s-init c = (omega arith, c.told-ws, supposed_none _ _)
 
 pub field-requires : goal.field-requires
-field-requires c = record { readable = c.requires.readable; r_bound = in_records _ _ c.loop-s-test.true; k_bound = omega arith }
+field-requires c = record { r_bound = in_records _ _ c.loop-s-test.true; k_bound = omega arith }
 
 pub field-first-requires : goal.field-first-requires
-field-first-requires c = record { readable = c.requires.readable; r_bound = in_records _ _ c.loop-s-test.true; k_bound = omega arith }
+field-first-requires c = record { r_bound = in_records _ _ c.loop-s-test.true; k_bound = omega arith }
 
 pub field-count-requires : goal.field-count-requires
-field-count-requires c = record { readable = c.requires.readable; r_bound = in_records _ _ c.loop-s-test.true; k_bound = omega arith }
+field-count-requires c = record { r_bound = in_records _ _ c.loop-s-test.true; k_bound = omega arith }
 
 pub index_run-requires : goal.index_run-requires
 index_run-requires c = let p = c.requires in
     let r = supposed_ready _ _ _ _ _ c.field.ensures.0 c.if-field-eq7.true c.field-first.ensures.0 c.field-count.ensures.0
-    p.readable p.formed c.loop-s-test.true in record { readable = p.readable; clause_run = r.0; n_bound = (r.2, r.3, c.loop-s.invariant.1) }
+    c.args.book.now.readable p.formed c.loop-s-test.true in record { clause_run = r.0; n_bound = (r.2, r.3, c.loop-s.invariant.1) }
 
 pub overflow_add-s : goal.overflow_add-s
-overflow_add-s c = omega (arith, c.requires.readable.size, c.loop-s-test.true)
+overflow_add-s c = omega (arith, c.args.book.now.readable.size, c.loop-s-test.true)
 
 pub loop-s-smaller : goal.loop-s-smaller
 loop-s-smaller c = omega (arith, c.loop-s-test.true)

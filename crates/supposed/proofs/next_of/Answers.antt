@@ -7,20 +7,20 @@ use Rattle.index.proofs.RunLaws.{next_none}
 use Rattle.supposed.proofs.next_of.Goals as goal
 
 pub overflow_add-i : goal.overflow_add-i
-overflow_add-i c = let p = c.requires in let y = suppose_run _ p.readable p.formed.0 _ p.s_bound.0 p.s_bound.1 in omega (arith, p.i_bound.0, y.2)
+overflow_add-i c = let p = c.requires in let y = suppose_run _ c.args.book.now.readable p.formed.0 _ p.s_bound.0 p.s_bound.1 in omega (arith, p.i_bound.0, y.2)
 
 pub returns-then-n-i : goal.returns-then-n-i
 returns-then-n-i c = let p = c.requires in
     let a = c.args in
     let ne = c.field-n.ensures.0 in
-    let z = next_none a.book.now a.f a.m (field a.book.now a.s 1) (a.i + 1) (field a.book.now a.s 2) (omega (arith, ne, c.if-n-i.true, p.i_bound.0)) in
+    let z = next_none a.book.now.bytes.now a.f a.m (field a.book.now.bytes.now a.s 1) (a.i + 1) (field a.book.now.bytes.now a.s 2) (omega (arith, ne, c.if-n-i.true, p.i_bound.0)) in
     (found_no _ _ (omega (arith, z, p.i_bound.0)), omega arith)
 
 pub supposed_after-j-requires : goal.supposed_after-j-requires
-supposed_after-j-requires c = let p = c.requires in let y = suppose_run _ p.readable p.formed.0 _ p.s_bound.0 p.s_bound.1 in
+supposed_after-j-requires c = let p = c.requires in let y = suppose_run _ c.args.book.now.readable p.formed.0 _ p.s_bound.0 p.s_bound.1 in
     let q = p.s_bound in
     record {
-      readable = p.readable;
+      readable = c.args.book.now.readable;
       clause_run = rw (c.field-first.ensures.0, c.field-n.ensures.0) y.0;
       i_lt_n = rw (c.field-first.ensures.0, c.field-n.ensures.0) (p.i_bound.0, y.2, y.3, q.2, q.3, q.4);
       run_indexed = rw (c.field-first.ensures.0, c.field-n.ensures.0) (p.formed.1.runs _ q.0 q.1);
@@ -28,7 +28,7 @@ supposed_after-j-requires c = let p = c.requires in let y = suppose_run _ p.read
     }
 
 pub returns-then-j-n : goal.returns-then-j-n
-returns-then-j-n c = let p = c.requires in let y = suppose_run _ p.readable p.formed.0 _ p.s_bound.0 p.s_bound.1 in
+returns-then-j-n c = let p = c.requires in let y = suppose_run _ c.args.book.now.readable p.formed.0 _ p.s_bound.0 p.s_bound.1 in
     let e = c.supposed_after-j.ensures in
     let fe = c.field-first.ensures.0 in
     let ne = c.field-n.ensures.0 in

@@ -13,16 +13,16 @@ pub overflow_add-first : goal.overflow_add-first
 overflow_add-first c = let p = c.requires.n_bound in omega (arith, p.0, p.1, c.loop-i-test.true)
 
 pub field-c-requires : goal.field-c-requires
-field-c-requires c = let p = c.requires in record { readable = p.readable; r_bound = (p.clause_run _ c.loop-i-test.true).0; k_bound = search rules }
+field-c-requires c = let p = c.requires in record { r_bound = (p.clause_run _ c.loop-i-test.true).0; k_bound = search rules }
 
 pub head_matches-requires : goal.head_matches-requires
-head_matches-requires c = let p = c.requires in let x = p.clause_run _ c.loop-i-test.true in record { readable = p.readable; c_bound = rw c.field-c.ensures.0 (x.1, x.2); f_bound = p.f_bound }
+head_matches-requires c = let p = c.requires in let x = p.clause_run _ c.loop-i-test.true in record { c_bound = rw c.field-c.ensures.0 (x.1, x.2); f_bound = p.f_bound }
 
 pub returns-then-head_matches : goal.returns-then-head_matches
 returns-then-head_matches c = let i = c.loop-i.invariant in sym (next_found _ _ _ _ _ _ _ _ c.loop-i-test.true c.field-c.ensures.0 c.head_matches.ensures c.if-head_matches.true) ∙ i.1
 
 pub note_of-i-requires : goal.note_of-i-requires
-note_of-i-requires c = let p = c.requires in let x = (p.clause_run _ c.loop-i-test.true).1 in (rw c.field-c.ensures.0 (in_book _ p.readable _ x).1, p.n_bound.2)
+note_of-i-requires c = let p = c.requires in let x = (p.clause_run _ c.loop-i-test.true).1 in (rw c.field-c.ensures.0 (in_book _ c.args.book.now.readable _ x).1, p.n_bound.2)
 
 pub loop-i-smaller : goal.loop-i-smaller
 loop-i-smaller c = let p = c.requires in let i = c.loop-i.invariant in let h = c.loop-i-test.true in omega (arith, noted_later _ _ _ _ p.run_indexed _ _ _ _ _ h c.field-c.ensures.0 (i.0.bucket h) c.note_of-i.ensures, h)

@@ -7,7 +7,7 @@ pub pair_past-requires : goal.pair_past-requires
 pair_past-requires c = let p = c.requires in let x = past_ready _ _ _ _ _ _ _ p.pairs p.count_nonzero.1 _ c.pair_step.ensures _ c.in-Past.is in record { slots = x.0; paired = x.1; count_nonzero = p.count_nonzero.0 }
 
 pub look_bind-u-requires : goal.look_bind-u-requires
-look_bind-u-requires c = let p = c.requires in let x = turn_ready _ _ _ _ _ _ _ p.pairs p.count_nonzero.1 _ c.pair_step.ensures _ _ c.in-Look.is in record { readable = p.readable; slots = (x.0.slots, x.0.fits); good_var = x.1; v_value = x.2 }
+look_bind-u-requires c = let p = c.requires in let x = turn_ready _ _ _ _ _ _ _ p.pairs p.count_nonzero.1 _ c.pair_step.ensures _ _ c.in-Look.is in record { slots = (x.0.slots, x.0.fits); good_var = x.1; v_value = x.2 }
 
 pub overflow_add-used : goal.overflow_add-used
 overflow_add-used c = let e = ends_most (c.look_bind-u.ensures.ends []) in omega (arith, c.ranges)

@@ -16,7 +16,7 @@ pub returns-then-more-eq0 : goal.returns-then-more-eq0
 returns-then-more-eq0 c = let p = c.requires in unify_spent _ _ _ _ _ _ _ _ _ _ p.slots.0 p.slots.1 p.good_run _ _ _ _ c.loop-more.invariant.2 (omega (arith, c.if-more-eq0.true))
 
 pub turn-requires : goal.turn-requires
-turn-requires c = let p = c.requires in let i = c.loop-more.invariant in record { readable = p.readable; pairs = i.2.pairs; count_nonzero = (i.1, omega (arith, c.if-more-eq0.false)) }
+turn-requires c = let p = c.requires in let i = c.loop-more.invariant in record { pairs = i.2.pairs; count_nonzero = (i.1, omega (arith, c.if-more-eq0.false)) }
 
 pub overflow_sub-result : goal.overflow_sub-result
 overflow_sub-result c = c.loop-more.invariant.0

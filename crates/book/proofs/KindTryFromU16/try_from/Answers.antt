@@ -1,3 +1,4 @@
+use mathlib.Core.Path.{refl, sym}
 use Rattle.book.specs.Kinds.{kind_of}
 use Rattle.book.proofs.KindLaws.{kind_none}
 use Rattle.book.proofs.KindTryFromU16.try_from.Goals as goal
@@ -43,4 +44,4 @@ unfolding kind_of
 returns-in-10 c = (rw c.in-10.is refl, tt)
 
 pub returns-in_default : goal.returns-in_default
-returns-in_default c = (rw (kind_none c.args.n c.in_default) refl, refl)
+returns-in_default c = (sym (kind_none c.args.n search), refl)

@@ -1,7 +1,7 @@
 use native.Mathlib.Omega.{arith}
 use Rattle.std.proofs.Common.{Err, ap, ◌∙◌}
 use Rattle.std.proofs.lemmas.Result.{err_from_is_err_and}
-use Rattle.answers.proofs.TermLaws.{inv_start, inv_slots, inv_length, next_small, inv_done, inv_room, part_room, inv_full, inv_more}
+use Rattle.answers.proofs.TermLaws.{inv_start, inv_done, inv_room, inv_full, inv_more}
 use Rattle.answers.proofs.write_terms.Goals as goal
 
 pub loop-progress-init : goal.loop-progress-init

@@ -1,10 +1,9 @@
 use native.Mathlib.Omega.{arith}
 use mathlib.Core.Path.{refl}
-use Prim.Native.Nat.{◌+◌, ◌<◌, ◌≤◌}
-use Rattle.words.proofs.ReadLaws.{in_book}
+use Prim.Native.Nat.{◌+◌, ◌<◌}
 use Rattle.index.proofs.RunLaws.{found_some, found_none}
 use Rattle.index.proofs.ListLaws.{code_head, link_small}
-use Rattle.index.proofs.IndexLaws.{made_list, moved_small, entered_before, entered_new}
+use Rattle.index.proofs.IndexLaws.{made_list, entered_before, entered_new}
 use Rattle.index.proofs.enter_own.Goals as goal
 
 pub head_node-requires-clause-by_index : goal.head_node-requires-clause-by_index

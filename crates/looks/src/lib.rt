@@ -29,6 +29,7 @@ pub struct Looked {
 }
 
 // What a text stands for, read through: the open variable v - 1, as word v; or the term of a record at a base.
+// A Result is no plainer here: neither of the two is an error.
 #[derive(Clone, Copy)]
 pub enum Value {
     Open(u32),
@@ -139,8 +140,8 @@ fn look_into(book: &Book, made: u32, ws: &mut Words, s: ToLook, r: u32, b: u32) 
     if m == 0 {
         return look_past(book, made, ws, s);
     }
+    let first = book.field(r, 3);
     if s.count == 1 {
-        let first = book.field(r, 3);
         let k = Kept {
             rec: r,
             first,
@@ -153,7 +154,6 @@ fn look_into(book: &Book, made: u32, ws: &mut Words, s: ToLook, r: u32, b: u32) 
         return LookStep::Full;
     }
     ws[(16128 + s.depth) as usize] = 65536 * (s.first + 1) + (4096 * (s.count - 1) + s.base);
-    let first = book.field(r, 3);
     LookStep::On(ToLook {
         first,
         count: m,
@@ -180,10 +180,8 @@ fn look_step(book: &Book, made: u32, ws: &mut Words, v: u32, k: Kept, s: ToLook)
     let w = words::read_variable(book, made, ws, b + o);
     if 4096 <= w {
         let r = w / 4096 - 1;
-        if s.count == 1 {
-            if r == k.rec {
-                return look_last(book, made, ws, s, k, w % 4096);
-            }
+        if s.count == 1 && r == k.rec {
+            return look_last(book, made, ws, s, k, w % 4096);
         }
         return look_into(book, made, ws, s, r, w % 4096);
     }

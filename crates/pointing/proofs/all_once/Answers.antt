@@ -1,22 +1,16 @@
-use mathlib.Core.Path.{sym, ◌∙◌}
-use native.Mathlib.Nat.{sub-zero}
-use native.Mathlib.Omega.{arith}
-use lib.Dec.{eqb}
-use borrow.Author.Rules.{rules}
-use Rattle.book.proofs.Tests.{and_true}
-use Rattle.book.proofs.ScanLaws.{scan_end, scan_skip}
-use Rattle.pointing.specs.Marks.{once_in}
+use Rattle.std.proofs.Common.{rules, ◌≡◌, true, ◌+◌, ◌≤◌, ◌<◌, ◌-◌, length, get_or, replicate, ℕ, ◌*◌, ◌/◌, ◌%◌, Bool, false, nat_eq, nat_lt, List, [], ◌∷◌, ◌++◌, slice_set, bit_and, bit_or, Fits, w8, w32, w64, Bor, MutBor}
+use Rattle.book.specs.Records.{at, members}
+use Rattle.book.specs.Records.{records as records_of}
+use Rattle.book.specs.Kinds.{term_kind, link_kind, and_kind, suppose_kind, clause_kind}
+use Rattle.book.specs.Pointing.{body_pointer, pointers_as, pointers, all_pointers}
+use Rattle.book.specs.Scan.{lowest_failing}
+use Rattle.book.specs.declared.Verdict.TheVariants.{Fine}
+use Rattle.book.specs.Refusals.{tree_test}
+use Rattle.pointing.specs.Marks.{bump as bump_spec}
+use Rattle.pointing.specs.Marks.{bump_all, once_in, counts, counted_words}
+use Rattle.pointing.specs.Held.{Held, FieldsFit}
 use Rattle.pointing.proofs.all_once.Goals as goal
 
-pub loop-i-init : goal.loop-i-init
-loop-i-init c = (search rules, λ b. simp sub-zero)
-
-pub word-requires : goal.word-requires
-word-requires c = let h = c.requires in let t = c.loop-i-test.true in omega arith
-
-pub loop-i-preserved : goal.loop-i-preserved
-unfolding once_in
-loop-i-preserved c = (search rules, λ b. let x = and_true c.loop-i.all (eqb c.word.result 1) b in sym (scan_skip 6 _ _ _ c.loop-i-test.true (rw c.word.ensures at x.1)) ∙ c.loop-i.invariant.1 x.0)
-
+-- src/lib.rt:119:1
 pub returns : goal.returns
-returns c = λ b. sym (c.loop-i.invariant.1 b) ∙ scan_end 6 _ _ _ c.loop-i-test.false
+returns c = ?

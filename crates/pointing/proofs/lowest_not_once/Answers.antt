@@ -1,31 +1,20 @@
-use native.Mathlib.Omega.{arith}
-use Rattle.book.proofs.ScanLaws.{scan_end, scan_skip, scan_hit}
-use Rattle.pointing.specs.Marks.{once_in}
-use borrow.Author.Rules.{rules}
-use borrow.Author.Tests.{eq-eqb, ne_eqb}
-use native.Mathlib.Nat.{sub-zero}
-use mathlib.Core.Path.{sym, ◌∙◌}
+use Rattle.std.proofs.Common.{rules, ◌≡◌, true, ◌+◌, ◌≤◌, ◌<◌, ◌-◌, length, get_or, replicate, ℕ, ◌*◌, ◌/◌, ◌%◌, Bool, false, nat_eq, nat_lt, List, [], ◌∷◌, ◌++◌, slice_set, bit_and, bit_or, Fits, w8, w32, w64, Bor, MutBor}
+use Rattle.book.specs.Records.{at, members}
+use Rattle.book.specs.Records.{records as records_of}
+use Rattle.book.specs.Kinds.{term_kind, link_kind, and_kind, suppose_kind, clause_kind}
+use Rattle.book.specs.Pointing.{body_pointer, pointers_as, pointers, all_pointers}
+use Rattle.book.specs.Scan.{lowest_failing}
+use Rattle.book.specs.declared.Verdict.TheVariants.{Fine}
+use Rattle.book.specs.Refusals.{tree_test}
+use Rattle.pointing.specs.Marks.{bump as bump_spec}
+use Rattle.pointing.specs.Marks.{bump_all, once_in, counts, counted_words}
+use Rattle.pointing.specs.Held.{Held, FieldsFit}
 use Rattle.pointing.proofs.lowest_not_once.Goals as goal
 
-pub all_once-requires : goal.all_once-requires
-all_once-requires c = c.requires.1
+-- src/lib.rt:126:1
+pub returns-in-Some : goal.returns-in-Some
+returns-in-Some c = ?
 
-pub returns-then-all_once : goal.returns-then-all_once
-returns-then-all_once c = sym (c.all_once.ensures c.if-all_once.true)
-
-pub loop-i-init : goal.loop-i-init
-loop-i-init c = (search rules, simp sub-zero)
-
-pub word-requires : goal.word-requires
-word-requires c = let h = c.requires.1 in let t = c.loop-i-test.true in omega arith
-
-pub returns-then-word-ne1 : goal.returns-then-word-ne1
-unfolding once_in
-returns-then-word-ne1 c = sym (scan_hit 6 _ _ _ c.loop-i-test.true (ne_eqb _ 1 (rw c.word.ensures at c.if-word-ne1.true))) ∙ c.loop-i.invariant.1
-
-pub loop-i-preserved : goal.loop-i-preserved
-unfolding once_in
-loop-i-preserved c = (search rules, sym (scan_skip 6 _ _ _ c.loop-i-test.true (eq-eqb _ 1 (rw c.word.ensures at c.if-word-ne1.false))) ∙ c.loop-i.invariant.1)
-
-pub returns : goal.returns
-returns c = sym (scan_end 6 _ _ _ c.loop-i-test.false) ∙ c.loop-i.invariant.1
+-- src/lib.rt:126:1
+pub returns-in-None : goal.returns-in-None
+returns-in-None c = ?

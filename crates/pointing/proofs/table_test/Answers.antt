@@ -1,38 +1,40 @@
-use mathlib.Core.Path.{◌≡◌, ◌∙◌}
-use Prim.Native.Nat.{◌≤◌}
-use native.Mathlib.Omega.{arith}
-use lib.ListN.{length}
-use Rattle.book.specs.Records.{records}
-use Rattle.pointing.proofs.MarkLaws.{counts_here, tree_by_counts}
-use borrow.Author.Rules.{rules}
+use Rattle.std.proofs.Common.{rules, ◌≡◌, true, ◌+◌, ◌≤◌, ◌<◌, ◌-◌, length, get_or, replicate, ℕ, ◌*◌, ◌/◌, ◌%◌, Bool, false, nat_eq, nat_lt, List, [], ◌∷◌, ◌++◌, slice_set, bit_and, bit_or, Fits, w8, w32, w64, Bor, MutBor}
+use Rattle.book.specs.Records.{at, members}
+use Rattle.book.specs.Records.{records as records_of}
+use Rattle.book.specs.Kinds.{term_kind, link_kind, and_kind, suppose_kind, clause_kind}
+use Rattle.book.specs.Pointing.{body_pointer, pointers_as, pointers, all_pointers}
+use Rattle.book.specs.Scan.{lowest_failing}
+use Rattle.book.specs.declared.Verdict.TheVariants.{Fine}
+use Rattle.book.specs.Refusals.{tree_test}
+use Rattle.pointing.specs.Marks.{bump as bump_spec}
+use Rattle.pointing.specs.Marks.{bump_all, once_in, counts, counted_words}
+use Rattle.pointing.specs.Held.{Held, FieldsFit}
 use Rattle.pointing.proofs.table_test.Goals as goal
 
+-- src/lib.rt:146:16
 pub overflow_cast-n : goal.overflow_cast-n
-unfolding records
-overflow_cast-n c = let a = c.requires.1 in omega arith
+overflow_cast-n c = ?
 
+-- src/lib.rt:146:5
 pub mark-requires : goal.mark-requires
-unfolding records
-mark-requires c =
-    let k : length c.clear.new.ws ≡ length c.args.ws.now = search rules in
-    let p : records c.args.book.now ≤ length c.args.ws.now = c.requires.2 in
-    (omega arith, omega arith, c.requires.3)
+mark-requires c = ?
 
-pub overflow_sub-n : goal.overflow_sub-n
-unfolding records
-overflow_sub-n c =
-    let p = c.requires.0 in
-    omega arith
+-- src/lib.rt:147:27
+pub slice_bounds-lowest_not_once-count : goal.slice_bounds-lowest_not_once-count
+slice_bounds-lowest_not_once-count c = ?
 
+-- src/lib.rt:147:21
+pub slice_bounds-lowest_not_once-end : goal.slice_bounds-lowest_not_once-end
+slice_bounds-lowest_not_once-end c = ?
+
+-- src/lib.rt:147:21
+pub slice_bounds-lowest_not_once-length : goal.slice_bounds-lowest_not_once-length
+slice_bounds-lowest_not_once-length c = ?
+
+-- src/lib.rt:147:5
 pub lowest_not_once-requires : goal.lowest_not_once-requires
-unfolding records
-lowest_not_once-requires c =
-    let k : length c.mark.new.ws ≡ length c.args.ws.now = search rules in
-    let p : records c.args.book.now ≤ length c.args.ws.now = c.requires.2 in
-    let q : records c.args.book.now ≤ 4096 = c.requires.1 in
-    (omega arith, omega arith)
+lowest_not_once-requires c = ?
 
+-- src/lib.rt:140:1
 pub returns : goal.returns
-returns c =
-    let e = counts_here c.args.book.now c.args.ws.now _ _ c.clear.ensures c.mark.ensures in
-    (c.lowest_not_once.ensures ∙ tree_by_counts c.args.book.now _ _ c.requires.2 e, e)
+returns c = ?

@@ -1,7 +1,0 @@
-use Rattle.pointing.proofs.MarkLaws.{marks_one}
-use Rattle.book.specs.Pointing.{pointers_as}
-use Rattle.pointing.proofs.bump_link.Goals as goal
-
-pub returns : goal.returns
-unfolding pointers_as
-returns c = marks_one _ _ _ _ c.wide.ensures c.bump.ensures

@@ -1,16 +1,12 @@
-use Rattle.std.proofs.Common.{rules, ◌≡◌, true, ◌+◌, ◌≤◌, ◌<◌, ◌-◌, length, get_or, replicate, ℕ, ◌*◌, ◌/◌, ◌%◌, Bool, false, nat_eq, nat_lt, List, [], ◌∷◌, ◌++◌, slice_set, bit_and, bit_or, Fits, w8, w32, w64, Bor, MutBor}
-use Rattle.book.specs.Records.{at, members}
-use Rattle.book.specs.Records.{records as records_of}
-use Rattle.book.specs.Kinds.{term_kind, link_kind, and_kind, suppose_kind, clause_kind}
-use Rattle.book.specs.Pointing.{body_pointer, pointers_as, pointers, all_pointers}
-use Rattle.book.specs.Scan.{lowest_failing}
-use Rattle.book.specs.declared.Verdict.TheVariants.{Fine}
-use Rattle.book.specs.Refusals.{tree_test}
-use Rattle.pointing.specs.Marks.{bump as bump_spec}
-use Rattle.pointing.specs.Marks.{bump_all, once_in, counts, counted_words}
-use Rattle.pointing.specs.Held.{Held, FieldsFit}
+use mathlib.Core.Bool.{true, ◌&&◌}
+use mathlib.Core.Path.{◌≡◌}
+use lib.Dec.{eqb}
+use borrow.Author.Rules.{rules}
+use Rattle.std.specs.List.{fold}
+use Rattle.pointing.proofs.MarkLaws.{all_ones}
 use Rattle.pointing.proofs.all_once.Goals as goal
 
--- src/lib.rt:119:1
 pub returns : goal.returns
-returns c = ?
+returns c =
+    let f : c.fold.result ≡ fold (λ b x. b && eqb x 1) true c.args.ws.now = search rules in
+    λ t. all_ones c.args.ws.now (rw f at t)

@@ -1,75 +1,60 @@
-use Rattle.records.proofs.BelowLaws.{fits_as, term_below, link_below, and_below, suppose_below, clause_below, question_below}
-use Rattle.book.specs.Fields.{fields_fit_as}
-use native.Mathlib.Omega.{arith}
-use Rattle.book.specs.Kinds.{kind_of}
-use Rattle.book.specs.Pointing.{pointers, pointers_as}
-use Rattle.pointing.proofs.MarkLaws.{none_marks}
+use Rattle.std.proofs.Common.{rules, ◌≡◌, true, ◌+◌, ◌≤◌, ◌<◌, ◌-◌, length, get_or, replicate, ℕ, ◌*◌, ◌/◌, ◌%◌, Bool, false, nat_eq, nat_lt, List, [], ◌∷◌, ◌++◌, slice_set, bit_and, bit_or, Fits, w8, w32, w64, Bor, MutBor}
+use Rattle.book.specs.Records.{at, members}
+use Rattle.book.specs.Records.{records as records_of}
+use Rattle.book.specs.Kinds.{term_kind, link_kind, and_kind, suppose_kind, clause_kind}
+use Rattle.book.specs.Pointing.{body_pointer, pointers_as, pointers, all_pointers}
+use Rattle.book.specs.Scan.{lowest_failing, fine}
+use Rattle.book.specs.declared.Test.TheVariants.{Tree}
+use Rattle.book.specs.Refusals.{tree_test}
+use Rattle.pointing.specs.Marks.{bump as bump_spec}
+use Rattle.pointing.specs.Marks.{bump_all, once_in, counts, counted_words}
+use Rattle.pointing.specs.Held.{Held, FieldsFit}
 use Rattle.pointing.proofs.bump_record.Goals as goal
 
+-- src/lib.rt:95:40
 pub bump_term-requires : goal.bump_term-requires
-unfolding kind_of fields_fit_as
-bump_term-requires c = let w = c.requires in let l = w.1 in let x = term_below w.0 c.args.r (fits_as w.0 c.args.r 2 c.in-2.is w.2) in omega arith
+bump_term-requires c = let h = c.in-Ok-Term.in-Ok-Term-own in let g = c.in-Ok-Term.in-Ok-own in ?
 
+-- src/lib.rt:96:27
 pub bump_link-requires : goal.bump_link-requires
-unfolding kind_of fields_fit_as
-bump_link-requires c = let w = c.requires in let l = w.1 in let x = link_below w.0 c.args.r (fits_as w.0 c.args.r 3 c.in-3.is w.2) in omega arith
+bump_link-requires c = ?
 
-pub bump_term-requires-in-4 : goal.bump_term-requires-in-4
-unfolding kind_of fields_fit_as
-bump_term-requires-in-4 c = let w = c.requires in let l = w.1 in let x = term_below w.0 c.args.r (fits_as w.0 c.args.r 4 c.in-4.is w.2) in omega arith
-
+-- src/lib.rt:97:37
 pub bump_and-requires : goal.bump_and-requires
-unfolding kind_of fields_fit_as
-bump_and-requires c = let w = c.requires in let l = w.1 in let x = and_below w.0 c.args.r (fits_as w.0 c.args.r 5 c.in-5.is w.2) in let a = x.0 in let b = x.1 in (omega arith, omega arith)
+bump_and-requires c = ?
 
-pub bump_and-requires-in-6 : goal.bump_and-requires-in-6
-unfolding kind_of fields_fit_as
-bump_and-requires-in-6 c = let w = c.requires in let l = w.1 in let x = and_below w.0 c.args.r (fits_as w.0 c.args.r 6 c.in-6.is w.2) in let a = x.0 in let b = x.1 in (omega arith, omega arith)
-
+-- src/lib.rt:98:47
 pub bump_suppose-requires : goal.bump_suppose-requires
-unfolding kind_of fields_fit_as
-bump_suppose-requires c = let w = c.requires in let l = w.1 in let x = suppose_below w.0 c.args.r (fits_as w.0 c.args.r 7 c.in-7.is w.2) in let a = x.0 in let b = x.1 in (omega arith, omega arith)
+bump_suppose-requires c = ?
 
+-- src/lib.rt:99:29
 pub bump_clause-requires : goal.bump_clause-requires
-unfolding kind_of fields_fit_as
-bump_clause-requires c = let w = c.requires in let l = w.1 in let x = clause_below w.0 c.args.r (fits_as w.0 c.args.r 8 c.in-8.is w.2) in let a = x.0 in let b = x.1 in (omega arith, omega arith, λ f. let d = x.2 f in omega arith)
+bump_clause-requires c = ?
 
-pub bump_suppose-requires-in-10 : goal.bump_suppose-requires-in-10
-unfolding kind_of fields_fit_as
-bump_suppose-requires-in-10 c = let w = c.requires in let l = w.1 in let x = question_below w.0 c.args.r (fits_as w.0 c.args.r 10 c.in-10.is w.2) in let a = x.0 in let b = x.1 in (omega arith, omega arith)
+-- src/lib.rt:90:1
+pub returns-in-Ok-Term : goal.returns-in-Ok-Term
+returns-in-Ok-Term c = ?
 
-pub returns-in-2 : goal.returns-in-2
-unfolding pointers kind_of pointers_as
-returns-in-2 c = rw c.in-2.is c.bump_term.ensures
+-- src/lib.rt:90:1
+pub returns-in-Ok-Link : goal.returns-in-Ok-Link
+returns-in-Ok-Link c = ?
 
-pub returns-in-3 : goal.returns-in-3
-unfolding pointers kind_of pointers_as
-returns-in-3 c = rw c.in-3.is c.bump_link.ensures
+-- src/lib.rt:90:1
+pub returns-in-Ok-And : goal.returns-in-Ok-And
+returns-in-Ok-And c = ?
 
-pub returns-in-4 : goal.returns-in-4
-unfolding pointers kind_of pointers_as
-returns-in-4 c = rw c.in-4.is c.bump_term-in-4.ensures
+-- src/lib.rt:90:1
+pub returns-in-Ok-Suppose : goal.returns-in-Ok-Suppose
+returns-in-Ok-Suppose c = ?
 
-pub returns-in-5 : goal.returns-in-5
-unfolding pointers kind_of pointers_as
-returns-in-5 c = rw c.in-5.is c.bump_and.ensures
+-- src/lib.rt:90:1
+pub returns-in-Ok-Clause : goal.returns-in-Ok-Clause
+returns-in-Ok-Clause c = ?
 
-pub returns-in-6 : goal.returns-in-6
-unfolding pointers kind_of pointers_as
-returns-in-6 c = rw c.in-6.is c.bump_and-in-6.ensures
+-- src/lib.rt:90:1
+pub returns : goal.returns
+returns c = let h = c.in-Ok-1 in let g = c.t4-1 in let k = c.in-Variable-1 in ?
 
-pub returns-in-7 : goal.returns-in-7
-unfolding pointers kind_of pointers_as
-returns-in-7 c = rw c.in-7.is c.bump_suppose.ensures
-
-pub returns-in-8 : goal.returns-in-8
-unfolding pointers kind_of pointers_as
-returns-in-8 c = rw c.in-8.is c.bump_clause.ensures
-
-pub returns-in-10 : goal.returns-in-10
-unfolding pointers kind_of pointers_as
-returns-in-10 c = rw c.in-10.is c.bump_suppose-in-10.ensures
-
-pub returns-in_default : goal.returns-in_default
-unfolding pointers
-returns-in_default c = none_marks _ _ _ c.in_default.in_default-own.rest
+-- src/lib.rt:90:1
+pub returns-2 : goal.returns-2
+returns-2 c = let h = c.in-Err-1 in ?

@@ -1,20 +1,11 @@
-use Rattle.std.proofs.Common.{rules, ◌≡◌, true, ◌+◌, ◌≤◌, ◌<◌, ◌-◌, length, get_or, replicate, ℕ, ◌*◌, ◌/◌, ◌%◌, Bool, false, nat_eq, nat_lt, List, [], ◌∷◌, ◌++◌, slice_set, bit_and, bit_or, Fits, w8, w32, w64, Bor, MutBor}
-use Rattle.book.specs.Records.{at, members}
-use Rattle.book.specs.Records.{records as records_of}
-use Rattle.book.specs.Kinds.{term_kind, link_kind, and_kind, suppose_kind, clause_kind}
-use Rattle.book.specs.Pointing.{body_pointer, pointers_as, pointers, all_pointers}
-use Rattle.book.specs.Scan.{lowest_failing}
-use Rattle.book.specs.declared.Verdict.TheVariants.{Fine}
-use Rattle.book.specs.Refusals.{tree_test}
-use Rattle.pointing.specs.Marks.{bump as bump_spec}
-use Rattle.pointing.specs.Marks.{bump_all, once_in, counts, counted_words}
-use Rattle.pointing.specs.Held.{Held, FieldsFit}
+use Rattle.pointing.proofs.MarkLaws.{run_end, run_step}
+use borrow.Author.Rules.{rules}
+use native.Mathlib.Omega.{arith}
+use mathlib.Core.Path.{sym, ◌∙◌}
 use Rattle.pointing.proofs.bump_run.Goals as goal
 
--- src/lib.rt:35:5
 pub loop-l-preserved : goal.loop-l-preserved
-loop-l-preserved c = ?
+loop-l-preserved c = (search rules, rw c.bump.ensures (sym (run_step _ _ _ c.loop-l-test.true) ∙ c.loop-l.invariant.1))
 
--- src/lib.rt:29:1
 pub returns : goal.returns
-returns c = ?
+returns c = sym (run_end _ _ _ c.loop-l-test.false) ∙ c.loop-l.invariant.1

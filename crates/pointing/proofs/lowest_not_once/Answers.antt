@@ -1,20 +1,17 @@
-use Rattle.std.proofs.Common.{rules, ◌≡◌, true, ◌+◌, ◌≤◌, ◌<◌, ◌-◌, length, get_or, replicate, ℕ, ◌*◌, ◌/◌, ◌%◌, Bool, false, nat_eq, nat_lt, List, [], ◌∷◌, ◌++◌, slice_set, bit_and, bit_or, Fits, w8, w32, w64, Bor, MutBor}
-use Rattle.book.specs.Records.{at, members}
-use Rattle.book.specs.Records.{records as records_of}
-use Rattle.book.specs.Kinds.{term_kind, link_kind, and_kind, suppose_kind, clause_kind}
-use Rattle.book.specs.Pointing.{body_pointer, pointers_as, pointers, all_pointers}
-use Rattle.book.specs.Scan.{lowest_failing}
-use Rattle.book.specs.declared.Verdict.TheVariants.{Fine}
-use Rattle.book.specs.Refusals.{tree_test}
-use Rattle.pointing.specs.Marks.{bump as bump_spec}
-use Rattle.pointing.specs.Marks.{bump_all, once_in, counts, counted_words}
-use Rattle.pointing.specs.Held.{Held, FieldsFit}
+use mathlib.Core.Bool.{not}
+use mathlib.Core.Path.{◌≡◌, sym}
+use lib.Dec.{eqb}
+use borrow.Author.Rules.{rules}
+use Rattle.std.specs.List.{position}
+use Rattle.pointing.proofs.MarkLaws.{scan_all, scan_first}
 use Rattle.pointing.proofs.lowest_not_once.Goals as goal
 
--- src/lib.rt:126:1
 pub returns-in-Some : goal.returns-in-Some
-returns-in-Some c = ?
+returns-in-Some c =
+    let f : c.position.result ≡ position (λ x. not (eqb x 1)) c.args.ws.now = search rules in
+    ?
 
--- src/lib.rt:126:1
 pub returns-in-None : goal.returns-in-None
-returns-in-None c = ?
+returns-in-None c =
+    let f : c.position.result ≡ position (λ x. not (eqb x 1)) c.args.ws.now = search rules in
+    ?

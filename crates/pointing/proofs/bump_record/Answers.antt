@@ -1,60 +1,48 @@
-use Rattle.std.proofs.Common.{rules, ◌≡◌, true, ◌+◌, ◌≤◌, ◌<◌, ◌-◌, length, get_or, replicate, ℕ, ◌*◌, ◌/◌, ◌%◌, Bool, false, nat_eq, nat_lt, List, [], ◌∷◌, ◌++◌, slice_set, bit_and, bit_or, Fits, w8, w32, w64, Bor, MutBor}
-use Rattle.book.specs.Records.{at, members}
-use Rattle.book.specs.Records.{records as records_of}
-use Rattle.book.specs.Kinds.{term_kind, link_kind, and_kind, suppose_kind, clause_kind}
-use Rattle.book.specs.Pointing.{body_pointer, pointers_as, pointers, all_pointers}
-use Rattle.book.specs.Scan.{lowest_failing, fine}
-use Rattle.book.specs.declared.Test.TheVariants.{Tree}
-use Rattle.book.specs.Refusals.{tree_test}
-use Rattle.pointing.specs.Marks.{bump as bump_spec}
-use Rattle.pointing.specs.Marks.{bump_all, once_in, counts, counted_words}
-use Rattle.pointing.specs.Held.{Held, FieldsFit}
+use native.Mathlib.Omega.{arith}
+use Rattle.pointing.specs.Marks.{bump_all}
+use Rattle.pointing.proofs.ReadLaws.{term_held, link_held, and_held, suppose_held, clause_held, term_points, link_points, and_points, suppose_points, clause_points, variable_points, none_points}
 use Rattle.pointing.proofs.bump_record.Goals as goal
 
--- src/lib.rt:95:40
+pub returns-in_default : goal.returns-in_default
+unfolding bump_all
+returns-in_default c = rw (none_points c.args.r c.in_default.ensures.0)
+
 pub bump_term-requires : goal.bump_term-requires
-bump_term-requires c = let h = c.in-Ok-Term.in-Ok-Term-own in let g = c.in-Ok-Term.in-Ok-own in ?
+bump_term-requires c = let w = c.requires in let l = w.1 in let x = term_held c.args.r _ c.in-Ok.ensures.0 w.0 w.2 c.in-Term.is in omega arith
 
--- src/lib.rt:96:27
 pub bump_link-requires : goal.bump_link-requires
-bump_link-requires c = ?
+bump_link-requires c = let w = c.requires in let l = w.1 in let x = link_held c.args.r _ c.in-Ok.ensures.0 w.0 w.2 c.in-Link.is in omega arith
 
--- src/lib.rt:97:37
 pub bump_and-requires : goal.bump_and-requires
-bump_and-requires c = ?
+bump_and-requires c =
+    let w = c.requires in let l = w.1 in let x = and_held c.args.r _ c.in-Ok.ensures.0 w.0 w.2 c.in-And.is in
+    let a = x.0 in let b = x.1 in (omega arith, omega arith)
 
--- src/lib.rt:98:47
 pub bump_suppose-requires : goal.bump_suppose-requires
-bump_suppose-requires c = ?
+bump_suppose-requires c =
+    let w = c.requires in let l = w.1 in let x = suppose_held c.args.r _ c.in-Ok.ensures.0 w.0 w.2 c.in-Suppose.is in
+    let a = x.0 in let b = x.1 in (omega arith, omega arith)
 
--- src/lib.rt:99:29
 pub bump_clause-requires : goal.bump_clause-requires
-bump_clause-requires c = ?
+bump_clause-requires c =
+    let w = c.requires in let l = w.1 in let x = clause_held c.args.r _ c.in-Ok.ensures.0 w.0 w.2 c.in-Clause.is in
+    let a = x.0 in let b = x.1 in (omega arith, omega arith, λ f. let d = x.2 f in omega arith)
 
--- src/lib.rt:90:1
-pub returns-in-Ok-Term : goal.returns-in-Ok-Term
-returns-in-Ok-Term c = ?
+pub returns-in-Term : goal.returns-in-Term
+returns-in-Term c = rw (term_points c.args.r _ c.in-Ok.ensures.0 c.in-Term.is) c.bump_term.ensures
 
--- src/lib.rt:90:1
-pub returns-in-Ok-Link : goal.returns-in-Ok-Link
-returns-in-Ok-Link c = ?
+pub returns-in-Link : goal.returns-in-Link
+returns-in-Link c = rw (link_points c.args.r _ c.in-Ok.ensures.0 c.in-Link.is) c.bump_link.ensures
 
--- src/lib.rt:90:1
-pub returns-in-Ok-And : goal.returns-in-Ok-And
-returns-in-Ok-And c = ?
+pub returns-in-And : goal.returns-in-And
+returns-in-And c = rw (and_points c.args.r _ c.in-Ok.ensures.0 c.in-And.is) c.bump_and.ensures
 
--- src/lib.rt:90:1
-pub returns-in-Ok-Suppose : goal.returns-in-Ok-Suppose
-returns-in-Ok-Suppose c = ?
+pub returns-in-Suppose : goal.returns-in-Suppose
+returns-in-Suppose c = rw (suppose_points c.args.r _ c.in-Ok.ensures.0 c.in-Suppose.is) c.bump_suppose.ensures
 
--- src/lib.rt:90:1
-pub returns-in-Ok-Clause : goal.returns-in-Ok-Clause
-returns-in-Ok-Clause c = ?
+pub returns-in-Clause : goal.returns-in-Clause
+returns-in-Clause c = rw (clause_points c.args.r _ c.in-Ok.ensures.0 c.in-Clause.is) c.bump_clause.ensures
 
--- src/lib.rt:90:1
-pub returns : goal.returns
-returns c = let h = c.in-Ok-1 in let g = c.t4-1 in let k = c.in-Variable-1 in ?
-
--- src/lib.rt:90:1
-pub returns-2 : goal.returns-2
-returns-2 c = let h = c.in-Err-1 in ?
+pub returns-in-Variable : goal.returns-in-Variable
+unfolding bump_all
+returns-in-Variable c = rw (variable_points c.args.r _ c.in-Ok.ensures.0 c.in-Variable.is)

@@ -15,7 +15,6 @@ overflow_cast-n c = let a = c.requires.1 in omega arith
 pub mark-requires : goal.mark-requires
 unfolding records
 mark-requires c =
-    let k : length c.fill.new.self ≡ length c.args.ws.now = c.fill.ensures.len in
     let p : records c.args.book.now ≤ length c.args.ws.now = c.requires.2 in
     (omega arith, omega arith, c.requires.3)
 

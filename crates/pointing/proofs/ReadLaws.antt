@@ -4,10 +4,9 @@ use mathlib.Core.List.{List, []}
 use mathlib.Core.Logic.{◌⊎◌, inl, inr}
 use mathlib.Core.Path.{◌≡◌}
 use Prim.Native.Nat.{ℕ, ◌+◌, ◌≤◌, ◌<◌}
-use Rattle.std.specs.Prelude.{Result, Ok, Err}
+use Rattle.std.specs.Prelude.{Ok}
 use Rattle.book.specs.declared.Kind as code
 use Rattle.book.specs.declared.Kind.TheVariants.{Variable, Term, Link, Atom, And, Or, Suppose, Clause, Tie, Question}
-use Rattle.book.specs.declared.UnknownKind.{UnknownKind}
 use Rattle.book.specs.KindRead.{kind_read}
 use Rattle.book.specs.Records.{at}
 use Rattle.book.specs.Kinds.{term_kind, link_kind, and_kind, suppose_kind, clause_kind, no_kind, kind_of}

@@ -1,6 +1,5 @@
 use Rattle.pointing.proofs.MarkLaws.{run_end, run_step}
 use borrow.Author.Rules.{rules}
-use native.Mathlib.Omega.{arith}
 use mathlib.Core.Path.{sym, ◌∙◌}
 use Rattle.pointing.proofs.bump_run.Goals as goal
 

@@ -1,4 +1,4 @@
-use Rattle.std.proofs.Common.{◌-◌, ◌≡◌, ℕ, ◌≤◌, ◌<◌}
+use Rattle.std.proofs.Common.{◌-◌, ◌≡◌, ℕ, ◌<◌}
 use Rattle.book.specs.Scope.{scope_at}
 use Rattle.scope.proofs.PartLaws.{found}
 use Rattle.scope.proofs.+scope_at.Given as goal
@@ -7,7 +7,4 @@ abbrev pub decreases-scope_at : goal.decreases-scope_at
 decreases-scope_at l = l.r
 
 abbrev pub invariant-loop-i : goal.invariant-loop-i
-invariant-loop-i l = (l.i ≤ l.m) × ((d : ℕ) → l.r < d → found l.book d l.p l.v l.i (l.m - l.i) ≡ scope_at l.book d l.n l.r)
-
-abbrev pub decreases-loop-i : goal.decreases-loop-i
-decreases-loop-i l = l.m - l.i
+invariant-loop-i l = (d : ℕ) → l.r < d → found l.book d l.p l.v l.i (l.m - l.i) ≡ scope_at l.book d l.n l.r

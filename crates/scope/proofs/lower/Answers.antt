@@ -3,16 +3,16 @@ use Rattle.book.specs.Scan.{lower}
 use Rattle.book.proofs.ScanLaws.{lower_first, lower_second}
 use Rattle.scope.proofs.lower.Goals as goal
 
-pub returns-in-Fine : goal.returns-in-Fine
+pub returns-in-Ok-default : goal.returns-in-Ok-default
 unfolding lower
-returns-in-Fine c = rw c.in-Fine.is
+returns-in-Ok-default c = rw c.in-Ok-default.is-0
 
-pub returns-in-Fine-w : goal.returns-in-Fine-w
+pub returns-in_default-Ok : goal.returns-in_default-Ok
 unfolding lower
-returns-in-Fine-w c = rw (c.in-Refused.is, c.in-Fine-w.is)
+returns-in_default-Ok c = rw (c.in_default-Ok.is-0, c.in_default-Ok.is-1)
 
-pub returns-then-r-q : goal.returns-then-r-q
-returns-then-r-q c = rw (c.in-Refused.is, c.in-Refused-w.is) (sym (lower_first _ _ _ _ c.if-r-q.true))
+pub returns-then-e-f : goal.returns-then-e-f
+returns-then-e-f c = let x = c.in-Err-Err in rw (x.is-0, x.is-1) (sym (lower_first x.e.test x.e.failing x.f.test x.f.failing c.if-e-f.true))
 
-pub returns-else-r-q : goal.returns-else-r-q
-returns-else-r-q c = rw (c.in-Refused.is, c.in-Refused-w.is) (sym (lower_second _ _ _ _ c.if-r-q.false))
+pub returns-else-e-f : goal.returns-else-e-f
+returns-else-e-f c = let x = c.in-Err-Err in rw (x.is-0, x.is-1) (sym (lower_second x.e.test x.e.failing x.f.test x.f.failing c.if-e-f.false))

@@ -1,6 +1,7 @@
 use mathlib.Core.Path.{◌≡◌, sym, ◌∙◌, ap}
 use Prim.Native.Nat.{◌-◌, ◌+◌}
 use native.Mathlib.Omega.{arith}
+use borrow.Author.Rules.{rules}
 use Rattle.book.specs.Records.{field}
 use Rattle.book.specs.Scan.{lower}
 use Rattle.book.specs.Scope.{own_clause_scope}
@@ -9,7 +10,7 @@ use Rattle.scope.proofs.own_clauses.Goals as goal
 
 pub loop-l-init : goal.loop-l-init
 unfolding lower
-loop-l-init c = let h : c.from-a.result + c.from.result - c.from-a.result ≡ c.args.n = omega arith in rw (h, c.from-a.ensures)
+loop-l-init c = search rules
 
 pub own_clause_at-requires : goal.own_clause_at-requires
 own_clause_at-requires c =

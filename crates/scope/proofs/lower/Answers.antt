@@ -1,18 +1,15 @@
-use mathlib.Core.Path.{sym}
+use mathlib.Core.Path.{◌≡◌, sym, ap, ◌∙◌}
 use Rattle.book.specs.Scan.{lower}
-use Rattle.book.proofs.ScanLaws.{lower_first, lower_second}
+use Rattle.scope.proofs.LowestLaws.{lower_min}
 use Rattle.scope.proofs.lower.Goals as goal
 
-pub returns-in-Ok-default : goal.returns-in-Ok-default
+pub returns-in-None-default : goal.returns-in-None-default
 unfolding lower
-returns-in-Ok-default c = rw c.in-Ok-default.is-0
+returns-in-None-default c = rw c.in-None-default.is-0
 
-pub returns-in_default-Ok : goal.returns-in_default-Ok
+pub returns-in_default-None : goal.returns-in_default-None
 unfolding lower
-returns-in_default-Ok c = rw (c.in_default-Ok.is-0, c.in_default-Ok.is-1)
+returns-in_default-None c = rw (c.in_default-None.is-0, c.in_default-None.is-1)
 
-pub returns-then-e-f : goal.returns-then-e-f
-returns-then-e-f c = let x = c.in-Err-Err in rw (x.is-0, x.is-1) (sym (lower_first x.e.test x.e.failing x.f.test x.f.failing c.if-e-f.true))
-
-pub returns-else-e-f : goal.returns-else-e-f
-returns-else-e-f c = let x = c.in-Err-Err in rw (x.is-0, x.is-1) (sym (lower_second x.e.test x.e.failing x.f.test x.f.failing c.if-e-f.false))
+pub returns-in-Some-Some : goal.returns-in-Some-Some
+returns-in-Some-Some c = let x = c.in-Some-Some in rw (x.is-0, x.is-1, c.min.ensures) (lower_min x.r x.q)

@@ -7,6 +7,7 @@ use Rattle.book.specs.Records.{field}
 use Rattle.book.specs.Scan.{lower}
 use Rattle.scope.specs.Ties.{earlier}
 use Rattle.scope.proofs.TieLaws.{tie_end, tie_turn, new_earlier}
+use Rattle.scope.specs.Lowest.{verdict_of}
 use Rattle.scope.proofs.tie_scope.Goals as goal
 
 pub loop-k-init : goal.loop-k-init
@@ -24,10 +25,10 @@ loop-k-preserved c =
       length-set c.loop-k.outers c.from-i.result c.field-y.result ∙ i.1,
       rw c.from-i.ensures
           (tie_turn c.args.book.now c.args.asked c.args.own c.args.outer c.args.first c.loop-k.k c.args.n c.field-x.result c.field-y.result
-          c.loop-k.owns c.loop-k.outers c.loop-k.v c.lower-v.result c.loop-k-test.true u w
+          c.loop-k.owns c.loop-k.outers (verdict_of c.loop-k.v) (verdict_of c.lower-v.result) c.loop-k-test.true u w
           (c.field-x.ensures ∙ ap (λ (z : ℕ). field c.args.book.now z 1) c.from.ensures)
           (c.field-y.ensures ∙ ap (λ (z : ℕ). field c.args.book.now z 2) c.from-in-loop-k.ensures)
-          (c.lower-v.ensures ∙ ap (lower c.loop-k.v) (rw c.from-i.ensures at (rw (own-new, outer-new) at c.fault.ensures)))
+          (c.lower-v.ensures ∙ ap (lower (verdict_of c.loop-k.v)) (rw c.from-i.ensures at (rw (own-new, outer-new) at c.fault.ensures)))
           ∙ i.2),
     )
 

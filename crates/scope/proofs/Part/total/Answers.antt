@@ -1,5 +1,5 @@
 use Rattle.scope.specs.Parts.{total}
-use Rattle.scope.proofs.total_of.Goals as goal
+use Rattle.scope.proofs.Part.total.Goals as goal
 
 pub returns : goal.returns
 unfolding total

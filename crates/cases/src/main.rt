@@ -102,7 +102,7 @@ fn other_size(rt: &impl Print, words: usize, room: &mut Room) -> io::Result<()> 
         used: 0,
         reply: Wanted::Refused { test: 1, record: 0 },
     };
-    if let Some(mut parts) = room.parts(case) {
+    if let Some(parts) = room.parts(case) {
         let outcome = parts.run(case);
         if let Err(wrong) = outcome {
             println!(rt; "case 0: {wrong}")?;

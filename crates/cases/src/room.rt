@@ -36,10 +36,10 @@ impl Room {
     // None: the room is too small for the case.
     pub(crate) fn parts(&mut self, case: Case) -> Option<Parts<'_>> {
         Some(Parts {
-            book: self.book.get_mut(..case.length)?,
-            used: self.used.get_mut(..case.used)?,
-            workspace: self.workspace.get_mut(..case.words)?,
-            out: self.out.get_mut(..case.room)?,
+            book: self.book.as_mut_slice().get_mut(..case.length)?,
+            used: self.used.as_mut_slice().get_mut(..case.used)?,
+            workspace: self.workspace.as_mut_slice().get_mut(..case.words)?,
+            out: self.out.as_mut_slice().get_mut(..case.room)?,
         })
     }
 }
@@ -53,26 +53,32 @@ impl Parts<'_> {
     }
 
     // Runs a case and compares the reply, every word of the workspace and every byte of the answer buffer.
-    pub(crate) fn run(&mut self, case: Case) -> Result<(), Wrong> {
-        fill(self.workspace);
-        fill(self.out);
+    pub(crate) fn run(self, case: Case) -> Result<(), Wrong> {
+        let Parts {
+            book,
+            used,
+            workspace,
+            out,
+        } = self;
+        fill(workspace);
+        fill(out);
         let mut reply = [4294967295u32; 6];
         capi::whittermay_solve(
-            self.book,
+            book,
             case.budget,
             case.wanted,
-            self.workspace,
-            self.out,
+            workspace,
+            out,
             &mut reply,
         );
         let want = case.reply.six();
         // Test 1's refusal changes no word; after any other reply all are 0. A refusal changes no byte.
         let no_words: &[u32] = &[];
         let words = if want[0] == 1 { None } else { Some(no_words) };
-        let bytes = if want[0] != 0 { None } else { Some(&*self.used) };
-        let word = first_wrong(self.workspace, words);
-        let byte = first_wrong(self.out, bytes);
-        if reply == want && word == self.workspace.len() && byte == self.out.len() {
+        let bytes = if want[0] != 0 { None } else { Some(&*used) };
+        let word = first_wrong(workspace, words);
+        let byte = first_wrong(out, bytes);
+        if reply == want && word == workspace.len() && byte == out.len() {
             return Ok(());
         }
         Err(Wrong {

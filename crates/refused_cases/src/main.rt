@@ -6,7 +6,6 @@
 
 use book::Verdict;
 use reading::read_full;
-use std::fmt;
 use std::io;
 use std::io::Read;
 
@@ -46,14 +45,6 @@ impl Case {
     }
 }
 
-impl fmt::Display for Case {
-    fn fmt<W: fmt::Write>(&self, f: &mut fmt::Formatter<W>) -> fmt::Result {
-        let number = self.number();
-        let record = self.record;
-        write!(f, "  is refusal {number}\n  at record {record}")
-    }
-}
-
 // Word i of the workspace before the call: never 0, and not the same as its neighbour.
 fn before(i: usize) -> u32 {
     (i % 251 + 1) as u32
@@ -69,7 +60,7 @@ fn fill(ws: &mut [u32]) {
 fn words_fit(ws: &[u32], kept: bool) -> bool {
     ws.iter()
         .enumerate()
-        .all(|(i, word)| *word == if kept { before(i) } else { 0 })
+        .all(|(i, word)| if kept { *word == before(i) } else { *word == 0 })
 }
 
 fn agrees(v: Verdict, c: Case) -> bool {
@@ -112,11 +103,12 @@ fn main(rt: HostRuntime) -> io::Result<()> {
     let mut input = rt.stdin();
     for k in 0..read_number(&mut input)? {
         let c = read_case(&mut input)?;
+        let number = c.number();
         if !run_case(&mut input, c, &mut book, &mut ws)? {
-            println!(rt; "case {k}\n{c}")?;
+            println!(rt; "case {k}\n  is refusal {number}\n  at record {}", c.record)?;
             wrong = wrong.saturating_add(1);
         }
-        if let Some(count) = tally.get_mut(c.number() as usize) {
+        if let Some(count) = tally.get_mut(number as usize) {
             *count = count.saturating_add(1);
         }
     }

@@ -63,14 +63,7 @@ impl Parts<'_> {
         fill(workspace);
         fill(out);
         let mut reply = [4294967295u32; 6];
-        capi::whittermay_solve(
-            book,
-            case.budget,
-            case.wanted,
-            workspace,
-            out,
-            &mut reply,
-        );
+        capi::whittermay_solve(book, case.budget, case.wanted, workspace, out, &mut reply);
         let want = case.reply.six();
         // Test 1's refusal changes no word; after any other reply all are 0. A refusal changes no byte.
         let no_words: &[u32] = &[];

@@ -58,9 +58,7 @@ fn fill(ws: &mut [u32]) {
 
 // Every word is as it was before the call, if it is to be kept; else every word is 0.
 fn words_fit(ws: &[u32], kept: bool) -> bool {
-    ws.iter()
-        .enumerate()
-        .all(|(i, word)| if kept { *word == before(i) } else { *word == 0 })
+    ws.iter().enumerate().all(|(i, word)| if kept { *word == before(i) } else { *word == 0 })
 }
 
 fn agrees(v: Verdict, c: Case) -> bool {

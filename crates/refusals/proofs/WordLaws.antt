@@ -14,9 +14,15 @@ use Rattle.pointing.specs.Marks.{counted_words}
 use Rattle.refusals.proofs.PassLaws.{never}
 use Rattle.refusals.specs.Passes.{refusing, book_words, tested_words, words_after}
 
-pub refused_not_passed {ℓ} : {X : Type ℓ} (e : Refusal) → refusing (Err e) ≡ false → X
+pub refused_not_passed {ℓ} : {X : Type ℓ} (v : Verdict) (e : Refusal) → v ≡ Err e → refusing v ≡ false → X
 unfolding refusing
-refused_not_passed e p = never (sym p)
+refused_not_passed (Err e) f q p = never (sym p)
+refused_not_passed (Ok u) f q p = refused_not_fine (sym q)
+
+pub refusing_is : (v : Verdict) → refusing v ≡ is_err v
+unfolding refusing
+refusing_is (Ok u) = refl
+refusing_is (Err e) = refl
 
 -- tests 2 to 7: v is what they said
 module _ (book ws after : List ℕ) (v : Verdict) (e : v ≡ book_verdict book) where

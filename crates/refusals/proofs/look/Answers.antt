@@ -1,6 +1,6 @@
 use mathlib.Core.Path.{sym, ◌∙◌}
 use native.Mathlib.Omega.{arith}
-use Rattle.refusals.proofs.PassLaws.{readable, is_some_true, is_some_false, none_if, some_if, look_past, look_four, look_kept, look_five, look_on_lem}
+use Rattle.refusals.proofs.PassLaws.{readable, is_some_false, none_if, some_if, look_four, look_kept, look_five, look_on_lem}
 use Rattle.refusals.proofs.look.Goals.{else-is_none-via-then-is_none+else-not-targets_fit, else-is_none-via-else-is_none}
 use Rattle.refusals.proofs.look.Goals as goal
 

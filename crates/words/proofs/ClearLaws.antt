@@ -52,7 +52,7 @@ clear_is at (suc n) ws h =
     let i : at + n - at ≡ n = omega arith in
     let s : n + 1 ≡ suc n = omega arith in
     ap (λ x. set x (at + n) 0) (clear_is at n ws (omega arith)) ∙ set-append_right (take at ws) (replicate n 0 ++ drop n (drop at ws)) at (at + n) 0 l (omega arith)
-      ∙ ap (λ x. take at ws ++ x) (rw i (fill_more n 0 (drop at ws) m ∙ rw s refl))
+    ∙ ap (λ x. take at ws ++ x) (rw i (fill_more n 0 (drop at ws) m ∙ rw s refl))
 
 pub filled_part : (at n m k : ℕ) (ws ys : List ℕ) → at + n ≤ length ws → m ≡ n → k ≡ n → ys ≡ replicate k 0 → take at ws ++ (ys ++ drop m (drop at ws)) ≡ clear_words at n ws
 filled_part at n m k ws ys h d f e = rw (e, f, d) (sym (clear_is at n ws h))

@@ -1,6 +1,5 @@
 use native.Mathlib.Omega.{arith}
 use mathlib.Core.Path.{refl}
-use lib.ListN.{length-set}
 use Rattle.words.specs.Words.{bind_words}
 use Rattle.words.proofs.bind.Goals as goal
 

@@ -1,7 +1,6 @@
 use native.Mathlib.Omega.{arith}
 use borrow.Author.Rules.{rules}
 use mathlib.Core.Path.{refl, ◌∙◌}
-use lib.ListN.{length-set}
 use Rattle.words.proofs.ReadLaws.{link_at, target_at, push_none, push_more, push_all}
 use Rattle.words.proofs.push_terms.Goals as goal
 

@@ -45,13 +45,6 @@ module _ (book : List ℕ) (R : Readable book) (k : ℕ) (O : OwnReady book k) (
   unfolding last_record
   last_in = omega (arith, O.some)
 
-  pub own_run_ready : (ws : List ℕ) → AllIndexed book ws → first ≡ field book last 1 → n ≡ field book last 2
-      → ClauseRun book first n × (((first < 4096) × (n ≤ 1024)) × Indexed book first n ws)
-  own_run_ready ws I fe ne = rw (fe, ne, le) (O.run, ((O.first_small, O.count_small), I.own))
-
-  pub own_match_here : (f m i : ℕ) → OwnMatches book f m i → first ≡ field book last 1 → n ≡ field book last 2 → (i < n) × (head_matches book f m (field book (first + i) 1) ≡ true)
-  own_match_here f m i M fe ne = rw (fe, ne, le) (M.below, M.matches)
-
 pub from_first : (book : List ℕ) (f m first n : ℕ) (r : Option ℕ) → r ≡ found_below n (next_match book f m first 0 n) → r ≡ found_below n (next_match book f m first 0 (n - 0))
 from_first book f m first n r e = let z : n - 0 ≡ n = omega arith in rw z e
 

@@ -12,12 +12,10 @@ use Rattle.book.specs.Records.{field, records, last_record}
 use Rattle.book.proofs.Accepted.{Formed}
 use Rattle.machine.specs.Machine.{Force, candidates}
 use Rattle.words.specs.Readable.{Readable}
-use Rattle.seeking.specs.declared.Place.{Place}
 use Rattle.branch.specs.State.{OwnReady, Run, rest_of, own_run, IsRest, IsRest.own_rest, IsRest.put_rest}
-use Rattle.index.specs.Runs.{head_matches, next_match, found_below, ClauseRun}
-use Rattle.index.specs.Index.{Indexed}
+use Rattle.index.specs.Runs.{head_matches, next_match, found_below}
 use Rattle.index.proofs.RunLaws.{found_yes, found_no}
-use Rattle.seeking.specs.Seeking.{AllIndexed, OwnMatches, own_place, own_candidate, IsCandidate, Sought, Sought.sought, Sought.no_more}
+use Rattle.seeking.specs.Seeking.{OwnMatches, own_place, own_candidate, IsCandidate, Sought, Sought.sought, Sought.no_more}
 use Rattle.seeking.proofs.SeekLaws.{force_at, ClauseKinds, one_candidate, none_here, some_here, rest_begins}
 
 -- a place of the question's own run

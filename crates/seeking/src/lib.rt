@@ -103,15 +103,7 @@ fn remember(ws: &mut Words, half: Half, p: u32, head: Head, w: u32)
 
 // The first candidate of program p, and of those before which it was put, but for the question's own run: clause j of program q as the word 128 q + j + 1;
 // 0 if there is none: the memo has it so, in the workspace. What is remembered of p itself has been asked before.
-fn seek_put(
-    book: &Book,
-    made: u32,
-    ws: &Words,
-    top: u32,
-    half: Half,
-    p: u32,
-    head: Head,
-) -> u32
+fn seek_put(book: &Book, made: u32, ws: &Words, top: u32, half: Half, p: u32, head: Head) -> u32
     requires { Searchable book.now.bytes.now ws.now made top p head.symbol head.count }
     ensures { (result < 131071) × Finds book.now.bytes.now ws.now p head.symbol head.count result }
 {
@@ -192,7 +184,10 @@ fn found(book: &Book, ws: &Words, w: u32, head: Head) -> Option<Place>
     ensures { (words : List ℕ) (made top : ℕ) (rest : List Force) → SoughtPut book.now.bytes.now words made top head.symbol head.count rest w → Sought book.now.bytes.now words made top head.symbol head.count rest result }
 {
     if 0 < w {
-        return Some(Place { program: (w - 1) / 128, clause: (w - 1) % 128 });
+        return Some(Place {
+            program: (w - 1) / 128,
+            clause: (w - 1) % 128,
+        });
     }
     own_first(book, ws, head)
 }

@@ -1,18 +1,10 @@
-use native.Mathlib.Omega.{arith}
 use mathlib.Core.Path.{refl, sym, ◌∙◌}
-use Rattle.seeking.proofs.SeekChain.{own_nowhere, unmarked, put_at_lem}
-use Rattle.seeking.proofs.MemoLaws.{stays_none}
+use Rattle.seeking.proofs.SeekChain.{own_nowhere, unmarked}
 use Rattle.seeking.proofs.seek_programs.Goals as goal
 
-pub returns-then-p-eq0 : goal.returns-then-p-eq0
-returns-then-p-eq0 c = record { finds = (λ md tp rest z. own_nowhere _ _ _ _ _ _ _ rest c.if-p-eq0.true z); memo_stays = stays_none _ _ _ }
+pub returns-then-p-eq0-clause-finds : goal.returns-then-p-eq0-clause-finds
+returns-then-p-eq0-clause-finds c = λ md tp rest z. own_nowhere _ _ _ _ _ _ _ rest c.if-p-eq0.true z
 
-pub known-requires : goal.known-requires
-known-requires c = let S = c.requires in let y = c.if-p-eq0.false in let x = put_at_lem (omega arith) S.standing.1 in record { q_bound = (x.some, x.below, S.few, S.count); by_index = S.memo }
-
-pub returns-in-Some : goal.returns-in-Some
-returns-in-Some c = record { finds = c.in-Some.ensures.1; memo_stays = stays_none _ _ _ }
-
-pub returns : goal.returns
-returns c = let S = c.requires in
-    let e = sym c.is_supposed.ensures ∙ c.if-is_supposed.false in record { finds = (λ md tp rest z. unmarked _ c.args.book.now.readable S.formed _ _ _ S.indexed.supposed e _ _ _ _ rest (λ x. refl) z); memo_stays = stays_none _ _ _ }
+pub returns-clause-finds : goal.returns-clause-finds
+returns-clause-finds c = let S = c.requires in
+    let e = sym c.is_supposed.ensures ∙ c.if-is_supposed.false in λ md tp rest z. unmarked _ c.args.book.now.readable S.formed _ _ _ S.indexed.supposed e _ _ _ _ rest (λ x. refl) z

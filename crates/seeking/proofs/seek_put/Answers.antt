@@ -1,6 +1,5 @@
 use native.Mathlib.Omega.{arith}
 use mathlib.Core.Path.{◌≡◌, refl, sym, ◌∙◌}
-use Prim.Native.Nat.{◌+◌, ◌*◌}
 use Rattle.seeking.specs.Seeking.{SoughtPut.put_here, SoughtPut.put_nowhere}
 use Rattle.seeking.proofs.SeekChain.{word_large, goal_ready, first_here, first_none, sought_as, put_as, put_at_lem}
 use Rattle.seeking.proofs.seek_put.Goals as goal
@@ -54,7 +53,7 @@ returns-in-Some-known c = (
   c.in-Some-known.ensures.0,
   λ md tp rest₀ z.
       let i = c.loop-q.invariant.1 md tp rest₀ z in
-          let y = put_at_lem c.loop-q-test.true i.1 in
+      let y = put_at_lem c.loop-q-test.true i.1 in
       put_as (sym (first_none _ c.args.book.now.readable c.requires.formed _ _ _ _ _ y _ _ _ c.first_of.ensures.0 c.in_default.is) ∙ i.2) (c.in-Some-known.ensures.1 md tp y.program (rw y.link y.before)),
 )
 

@@ -1,13 +1,13 @@
 -- What the body of a clause says of its flag and its pointer.
 use mathlib.Core.Bool.{Bool, true, false}
 use mathlib.Core.List.{List}
-use mathlib.Core.Path.{◌≡◌, refl, sym, ap}
+use mathlib.Core.Path.{◌≡◌, refl, ap}
 use Prim.Native.Nat.{ℕ}
 use lib.Dec.{eqb}
 use borrow.Author.Tests.{eqb-true}
 use Rattle.std.specs.Prelude.{Option, Some, None}
 use Rattle.book.specs.Records.{at}
-use Rattle.records.specs.Body.{body_at, body_of}
+use Rattle.records.specs.Body.{body_of}
 
 payload : ℕ → Option ℕ → ℕ
 payload d None = d

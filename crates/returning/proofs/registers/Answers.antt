@@ -1,5 +1,5 @@
 use mathlib.Core.Path.{refl}
-use Rattle.returning.proofs.restored.Goals as goal
+use Rattle.returning.proofs.registers.Goals as goal
 
 pub returns : goal.returns
 returns c = refl

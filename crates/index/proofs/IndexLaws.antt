@@ -9,6 +9,8 @@ use native.Mathlib.Decide.{dec_lt, ℕ_discrete}
 use borrow.Author.Tests.{lt-ltb, le-ltb}
 use lib.ListN.{length, get_or, set, length-set}
 use lib.Seq.{get_or-set_same, get_or-set_other}
+use Rattle.std.proofs.Common.{take, drop, ◌++◌, replicate, length-drop, length-append}
+use Rattle.std.proofs.lemmas.List.{length-take-le, length-replicate, get_or_append_left, get_or-append_right, get_or-take, get_or-replicate, get_or-drop}
 use Rattle.book.specs.Records.{field}
 use Rattle.words.specs.Frame.{Keeps}
 use Rattle.words.proofs.StackLaws.{keeps_refl, keeps_trans, keeps_narrow, keeps_set}
@@ -39,20 +41,46 @@ module _ (book : List ℕ) (first n : ℕ) where
   entry_clause : n ≤ 1024 → (i : ℕ) → i < n → entry_of book first n i / 1048576 ≡ field book (first + i) 1
   entry_clause m i h = rw (← entry_here i h) (omega arith)
 
--- EMPTYING
-pub empty_none : (n : ℕ) (ws : List ℕ) → EmptyFrom n 0 ws ws
-empty_none n ws = record { firsts = λ x h. absurd (omega arith); below = keeps_refl 0 4096 ws; above = keeps_refl (4096 + 0) 16384 ws }
+-- EMPTYING: a part of the words is filled with n, and the rest stays
+module _ (n at k : ℕ) (ws ys : List ℕ) (l : at + k ≤ length ws) (e : ys ≡ replicate k n) where
+  abbrev filled : List ℕ
+  filled = take at ws ++ (ys ++ drop k (drop at ws))
 
-pub empty_more : (n b : ℕ) (ws ws₁ : List ℕ) → b < 1024 → length ws ≡ 16384 → EmptyFrom n b ws ws₁ → EmptyFrom n (b + 1) ws (set ws₁ (4096 + b) n)
-empty_more n b ws ws₁ h l E = record {
-  firsts = λ x a. go x a (dec_lt x b);
-  below = keeps_trans E.below (keeps_set 0 4096 ws₁ (4096 + b) n (inr (omega arith)));
-  above = keeps_trans (keeps_narrow (omega arith) (omega arith) E.above) (keeps_set (4096 + (b + 1)) 16384 ws₁ (4096 + b) n (inl (omega arith)));
-}
-  where
-    go : (x : ℕ) → x < b + 1 → Dec (x < b) → get_or (set ws₁ (4096 + b) n) (4096 + x) 0 ≡ n
-    go x a (yes y) = get_or-set_other ws₁ (4096 + b) (4096 + x) n 0 (λ z. omega arith) ∙ E.firsts x y
-    go x a (no y) = let e : x ≡ b = omega arith in rw e (get_or-set_same ws₁ (4096 + b) n 0 (omega (arith, E.below.size, l)))
+  before : length (take at ws) ≡ at
+  before = length-take-le at ws (omega arith)
+
+  within : length ys ≡ k
+  within = rw e (length-replicate k n)
+
+  filled_size : length filled ≡ length ws
+  filled_size = simp (length-append, length-drop) (omega (arith, before, within, l))
+
+  filled_below : (x : ℕ) → x < at → get_or filled x 0 ≡ get_or ws x 0
+  filled_below x h = get_or_append_left (take at ws) (ys ++ drop k (drop at ws)) 0 x (omega (arith, before)) ∙ get_or-take at ws x 0 h
+
+  filled_here : (x : ℕ) → x < k → get_or filled (at + x) 0 ≡ n
+  filled_here x h =
+      let z : at + x - at ≡ x = omega arith in
+      get_or-append_right (take at ws) (ys ++ drop k (drop at ws)) at (at + x) 0 before (omega arith)
+      ∙ rw z (get_or_append_left ys (drop k (drop at ws)) 0 x (omega (arith, within)) ∙ rw e (get_or-replicate k x n 0 h))
+
+  filled_above : (x : ℕ) → at + k ≤ x → get_or filled x 0 ≡ get_or ws x 0
+  filled_above x h =
+      let z : at + (k + (x - at - k)) ≡ x = omega arith in
+      get_or-append_right (take at ws) (ys ++ drop k (drop at ws)) at x 0 before (omega arith)
+      ∙ get_or-append_right ys (drop k (drop at ws)) k (x - at) 0 within (omega arith)
+      ∙ get_or-drop k (drop at ws) (x - at - k) 0 ∙ get_or-drop at ws (k + (x - at - k)) 0 ∙ rw z refl
+
+pub emptied : (n : ℕ) (ws ys : List ℕ) → length ws ≡ 16384 → ys ≡ replicate (length (take 1024 (drop 4096 ws))) n → EmptyFrom n 1024 ws (take 4096 ws ++ (ys ++ drop 1024 (drop 4096 ws)))
+emptied n ws ys l d =
+    let long : length (take 1024 (drop 4096 ws)) ≡ 1024 = length-take-le 1024 (drop 4096 ws) (simp length-drop (omega (arith, l))) in
+    let e : ys ≡ replicate 1024 n = rw long at d in
+    let s = filled_size n 4096 1024 ws ys (omega (arith, l)) e in
+    record {
+      firsts = filled_here n 4096 1024 ws ys (omega (arith, l)) e;
+      below = record { size = s; same = λ x a b. filled_below n 4096 1024 ws ys (omega (arith, l)) e x b };
+      above = record { size = s; same = λ x a b. filled_above n 4096 1024 ws ys (omega (arith, l)) e x a };
+    }
 
 -- MAKING
 pub made_none : (book : List ℕ) (first n : ℕ) (ws ws₁ : List ℕ) → EmptyFrom n 1024 ws ws₁ → IndexedFrom book first n n ws₁ ws₁

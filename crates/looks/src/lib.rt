@@ -10,6 +10,7 @@ ghost use Rattle.looks.specs.Runs.{past_of, Listed, Leaves, TermAt, HasRun, Look
 ghost use Rattle.looks.specs.Values.{LinkAt, ValueOf};
 ghost use Rattle.looks.specs.Steps.{LookStepped, LookWent};
 
+use book::Kind;
 use machine::Limit;
 use words::{Book, Words};
 
@@ -43,7 +44,7 @@ pub fn value_of(book: &Book, made: u32, ws: &Words, k: u32, b: u32) -> Value
     ensures { ValueOf book.now.bytes.now made ws.now (term_of book.now.bytes.now (book_field book.now.bytes.now k 1) b) result }
 {
     let t = book.field(k, 1);
-    if book.field(t, 0) != 1 {
+    if !book.is(t, Kind::Variable) {
         return Value::At(t, b);
     }
     let o = book.field(t, 1);
@@ -173,7 +174,7 @@ fn look_step(book: &Book, made: u32, ws: &mut Words, v: u32, k: Kept, s: ToLook)
 {
     let t = book.field(s.first, 1);
     let b = s.base;
-    if book.field(t, 0) != 1 {
+    if !book.is(t, Kind::Variable) {
         return look_into(book, made, ws, s, t, b);
     }
     let o = book.field(t, 1);

@@ -1,7 +1,7 @@
 use native.Mathlib.Omega.{arith}
 use Rattle.returning.proofs.RenewLaws.{atom_large, atom_inside}
 use Rattle.returning.proofs.PassLaws.{first_link, first_text, first_is}
-use Rattle.returning.proofs.first_word.Goals as goal
+use Rattle.returning.proofs.first_term.Goals as goal
 
 pub overflow_sub-a : goal.overflow_sub-a
 overflow_sub-a c = let p = c.requires in omega (arith, atom_large _ _ _ _ _ p.to_clause.1)

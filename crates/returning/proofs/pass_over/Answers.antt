@@ -5,11 +5,11 @@ use Rattle.branch.proofs.FromScoped.{own_ready}
 use Rattle.returning.proofs.MemoFrames.{indexed_only}
 use Rattle.returning.proofs.pass_over.Goals as goal
 
-pub first_word-w-requires : goal.first_word-w-requires
-first_word-w-requires c = let p = c.requires in record { accepted = p.accepted.0; to_clause = p.to_clause }
+pub first_term-first-requires : goal.first_term-first-requires
+first_term-first-requires c = let p = c.requires in record { accepted = p.accepted.0; to_clause = p.to_clause }
 
 pub loop-y-init : goal.loop-y-init
-loop-y-init c = inv_start c.first_word-w.ensures c.requires.to_clause
+loop-y-init c = inv_start _ c.first_term-first.ensures c.requires.to_clause
 
 pub after_next-next-requires : goal.after_next-next-requires
 after_next-next-requires c = let p = c.requires in let I = c.loop-y.invariant in record { accepted = (p.accepted.0, indexed_only I.memo.0 (own_ready _ p.accepted.0) p.accepted.1); to_clause = I.some; by_index = inv_memo _ _ _ I p.memo }
@@ -29,8 +29,8 @@ returns-then-left-used-lt2 c = let I = inv_sought _ _ c.loop-y.invariant c.after
 pub overflow_add-result : goal.overflow_add-result
 overflow_add-result c = let I = c.loop-y.invariant in omega (arith, c.if-left-used-lt2.false, I.within)
 
-pub returns-in-Nothing : goal.returns-in-Nothing
-returns-in-Nothing c = let p = c.requires in let I = inv_sought _ _ c.loop-y.invariant c.after_next-next.ensures.memo_stays in record { pass_gives = (λ threads X. let d = c.passes.ensures c.if-not-passes.false in inv_gone c.args.book.now.readable p.accepted.0 _ _ I (omega (arith, c.if-left-used-lt2.false)) _ refl d.0 d.1 _ c.after_next-next.ensures.next_is c.in-Nothing.is threads X); memo_stays = I.memo }
+pub returns-in-None : goal.returns-in-None
+returns-in-None c = let p = c.requires in let I = inv_sought _ _ c.loop-y.invariant c.after_next-next.ensures.memo_stays in record { pass_gives = (λ threads X. let d = c.passes.ensures c.if-not-passes.false in inv_gone c.args.book.now.readable p.accepted.0 _ _ I (omega (arith, c.if-left-used-lt2.false)) _ refl d _ c.after_next-next.ensures.next_is c.in-None.is threads X); memo_stays = I.memo }
 
 pub overflow_add-used : goal.overflow_add-used
 overflow_add-used c = let I = c.loop-y.invariant in omega (arith, c.if-left-used-lt2.false, I.within, c.ranges)
@@ -39,4 +39,4 @@ pub loop-y-smaller : goal.loop-y-smaller
 loop-y-smaller c = let I = c.loop-y.invariant in omega (arith, c.if-left-used-lt2.false, I.within)
 
 pub loop-y-preserved : goal.loop-y-preserved
-loop-y-preserved c = let p = c.requires in let I = inv_sought _ _ c.loop-y.invariant c.after_next-next.ensures.memo_stays in let d = c.passes.ensures c.if-not-passes.false in inv_more c.args.book.now.readable p.accepted.0 _ _ I (omega (arith, c.if-left-used-lt2.false)) _ refl d.0 d.1 _ c.after_next-next.ensures.next_is _ _ _ c.in-At.is c.at_place-y.ensures
+loop-y-preserved c = let p = c.requires in let I = inv_sought _ _ c.loop-y.invariant c.after_next-next.ensures.memo_stays in let d = c.passes.ensures c.if-not-passes.false in inv_more c.args.book.now.readable p.accepted.0 _ _ I (omega (arith, c.if-left-used-lt2.false)) _ refl d _ c.after_next-next.ensures.next_is _ _ c.in-Some.is c.at_place-y.ensures

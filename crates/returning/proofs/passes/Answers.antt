@@ -5,8 +5,8 @@ use Rattle.returning.proofs.TryNeeds.{clause_inside}
 use Rattle.returning.proofs.PassLaws.{never, clash_ready}
 use Rattle.returning.proofs.passes.Goals as goal
 
-pub returns-then-w-lt4096 : goal.returns-then-w-lt4096
-returns-then-w-lt4096 c = never
+pub returns-in-None : goal.returns-in-None
+returns-in-None c = never
 
 pub place-p-requires : goal.place-p-requires
 place-p-requires c = let p = c.requires in record { accepted = p.accepted; leads = leads _ c.args.book.now.readable p.accepted _ _ _ _ p.to_clause.1 }
@@ -21,7 +21,7 @@ pub returns-then-x-field-gt2048 : goal.returns-then-x-field-gt2048
 returns-then-x-field-gt2048 c = never
 
 pub clashes-requires : goal.clashes-requires
-clashes-requires c = let p = c.requires in let x = clash_ready _ c.args.book.now.readable p.accepted _ _ _ _ p.to_clause.1 _ (p.first_is c.if-w-lt4096.false) _ (ap (λ z. z.clause) c.place-p.ensures) (rw (← c.field.ensures.0) (omega (arith, c.if-x-field-gt2048.false))) in record { c_bound = x.0; le_w = x.1 }
+clashes-requires c = let p = c.requires in let x = clash_ready _ c.args.book.now.readable p.accepted _ _ _ _ p.to_clause.1 _ (p.first_is _ c.in-Some.is) _ (ap (λ z. z.clause) c.place-p.ensures) (rw (← c.field.ensures.0) (omega (arith, c.if-x-field-gt2048.false))) in record { c_bound = x.0; le_w = x.1 }
 
 pub returns : goal.returns
-returns c = λ t. (c.if-w-lt4096.false, rw (← c.place-p.ensures) (c.clashes.ensures t))
+returns c = λ t. rw (c.in-Some.is, ← c.place-p.ensures) (c.clashes.ensures t)

@@ -1,13 +1,12 @@
 -- Passing over candidates, as the code does it.
 use mathlib.Core.Path.{◌≡◌, refl, sym, ◌∙◌, ap}
-use mathlib.Core.Bool.{Bool, true, false, not}
+use mathlib.Core.Bool.{Bool, true, false, not, ◌&&◌}
 use mathlib.Core.List.{List, ◌∷◌, ◌++◌}
 use Rattle.std.specs.Prelude.{Option, Some, None, IfSome, IsSomeAnd}
 use Rattle.std.specs.Option.{ForSome}
 use Prim.Native.Nat.{ℕ, suc, ◌+◌, ◌-◌, ◌*◌, ◌/◌, ◌%◌, ◌≤◌, ◌<◌}
 use native.Mathlib.Omega.{arith}
 use native.Mathlib.Nat.{sub-zero}
-use borrow.Author.Tests.{eq-eqb, ne_eqb}
 use lib.Dec.{eqb}
 use Rattle.book.specs.Records.{field, records}
 use Rattle.book.proofs.Accepted.{Accepted}
@@ -19,7 +18,7 @@ use Rattle.machine.specs.Answers.{Line}
 use Rattle.machine.specs.Run.{Request}
 use Rattle.words.specs.Words.{word_for, sym_w, rec_of}
 use Rattle.words.specs.Readable.{Readable, TextRec}
-use Rattle.words.specs.Good.{Good, Slots, ReadThrough}
+use Rattle.words.specs.Good.{Good, ReadThrough}
 use Rattle.words.proofs.SlotLaws.{good_term}
 use Rattle.branch.specs.declared.Back.{Back}
 use Rattle.seeking.specs.declared.Place.{Place}
@@ -44,39 +43,20 @@ use Rattle.returning.proofs.ClashLaws.{first_ready, first_good, pass_units}
 use Rattle.returning.proofs.MemoFrames.{clause_only, first_only}
 
 -- THE TEST OF A CLAUSE
-module _ (book : List ℕ) (made w c h l u r : ℕ) (he : h ≡ field book c 4) (le : l ≡ field book h 3) (ue : u ≡ field book l 1) (re : r ≡ w / 4096 - 1) where
+is_false : (z : Bool) → not z ≡ true → z ≡ false
+is_false false e = refl
+is_false true e = let z : ◌≡◌ {A = ℕ} 0 1 = cc in absurd (omega arith)
+
+module _ (book : List ℕ) (made w c h l u : ℕ) (he : h ≡ field book c 4) (le : l ≡ field book h 3) (ue : u ≡ field book l 1) where
   u_first : u ≡ first_argument book (field book c 4)
   u_first = ue ∙ rw (le, he) refl
 
-  abbrev here_u : ℕ
-  here_u = first_argument book (field book c 4)
-
-  module _ (fits : made + field book c 1 ≤ 2048) (k : ℕ) (ke : k ≡ field book u 0) (kind : k ≡ 2) where
-    is_a_term : field book here_u 0 ≡ 2
-    is_a_term = rw (← u_first) (sym ke ∙ kind)
-
-    pub clash_symbol : (f g : ℕ) → f ≡ field book r 1 → g ≡ field book u 1 → (f ≡ g → ⊥) → Clashes book made w c
-    unfolding sym_w rec_of
-    clash_symbol f g fe ge d =
-        let x : f ≡ sym_w book w = fe ∙ rw re refl in
-        let y : g ≡ field book here_u 1 = ge ∙ rw u_first refl in
-        record { room = fits; term = is_a_term; differ = rw (← x, ← y, ne_eqb f g d) refl }
-
-    pub clash_count : (f g a b : ℕ) → f ≡ field book r 1 → g ≡ field book u 1 → f ≡ g → a ≡ field book r 2 → b ≡ field book u 2 → not (eqb a b) ≡ true → Clashes book made w c
-    unfolding sym_w rec_of
-    clash_count f g a b fe ge d ae be t =
-        let x : f ≡ sym_w book w = fe ∙ rw re refl in
-        let y : g ≡ field book here_u 1 = ge ∙ rw u_first refl in
-        let p : a ≡ field book (rec_of w) 2 = ae ∙ rw re refl in
-        let q : b ≡ field book here_u 2 = be ∙ rw u_first refl in
-        record { room = fits; term = is_a_term; differ = rw (← x, ← y, ← p, ← q, eq-eqb f g d) (is_false (eqb a b) t) }
-      where
-        is_false : (z : Bool) → not z ≡ true → z ≡ false
-        is_false false e = refl
-        is_false true e = let z : ◌≡◌ {A = ℕ} 0 1 = cc in absurd (omega arith)
-
-pub no_clash : {T : Type 0} (b : Bool) → b ≡ false → b ≡ true → T
-no_clash b e f = let z : ◌≡◌ {A = ℕ} 0 1 = cc in absurd (omega arith)
+  -- the heads of the two terms differ
+  pub clash_heads : made + field book c 1 ≤ 2048 → field book u 0 ≡ 2 → (f g a b : ℕ) → f ≡ field book (w / 4096 - 1) 1 → g ≡ field book u 1 → a ≡ field book (w / 4096 - 1) 2 → b ≡ field book u 2
+      → not (eqb f g && eqb a b) ≡ true → Clashes book made w c
+  unfolding sym_w rec_of
+  clash_heads fits kind f g a b fe ge ae be t =
+      record { room = fits; term = rw u_first at kind; differ = rw (fe, ge, ae, be, u_first) at (is_false (eqb f g && eqb a b) t) }
 
 module _ (book : List ℕ) (R : Readable book) (A : Accepted book) (ws : List ℕ) (k : ℕ) (x : Back) (threads : List Thread) (X : ToClause book ws k x threads) where
   -- THE FIRST ARGUMENT
@@ -91,11 +71,11 @@ module _ (book : List ℕ) (R : Readable book) (A : Accepted book) (ws : List �
         omega (arith, R.run X.a h, X.with.here.inside, some_here)
 
     pub first_text : (first t : ℕ) → first ≡ field book (x.atom / 4096 - 1) 3 → t ≡ field book first 1
-        → (TextRec book t × (x.atom % 4096 < 4096)) × (Slots book x.made ws × Good book x.made (word_for book (x.atom % 4096) t))
+        → TextRec book t × Good book x.made (word_for book (x.atom % 4096) t)
     first_text first t e f =
         let z : t ≡ first_argument book X.a = f ∙ ap (λ (a : ℕ). field book a 1) e ∙ ap (λ (a : ℕ). first_argument book a) (atom_record book ws k x threads X) in
         let y = atom_base book ws k x threads X in
-        rw (z, y) (((first_ready book R A ws k x threads X some_here).0, X.with.base), (X.again.sound.slots, first_good book R A ws k x threads X some_here))
+        rw (z, y) ((first_ready book R A ws k x threads X some_here).0, first_good book R A ws k x threads X some_here)
 
     pub first_is : (first t w₀ w : ℕ) → first ≡ field book (x.atom / 4096 - 1) 3 → t ≡ field book first 1 → w₀ ≡ word_for book (x.atom % 4096) t → ReadThrough book x.made ws w₀ w → 4096 ≤ w
         → FirstIs book ws x.made (x.atom / 4096 - 1) (x.atom % 4096) w
@@ -183,9 +163,9 @@ two_more_lem left used ts us vs h P u q y ls =
     let a : left - used ≡ suc (suc (left - (used + 2))) = omega arith in
     P q y ls ∙ ap (λ (n : ℕ). run_on q n (spent_units used y) ls us) a ∙ u q (left - (used + 2)) (spent_units used y) ls ∙ ap (λ (t : Tally). run_on q (left - (used + 2)) t ls vs) (spent_two used y)
 
-if_some : {P : ℕ → Type 0} (o : Option ℕ) → IfSome o P → ForSome o P
-if_some None h w e = let z : ◌≡◌ {A = ℕ} 0 1 = cc in absurd (omega arith)
-if_some (Some v) h w e = let z : v ≡ w = cc in rw z at h
+if_some : (P : ℕ → Type 0) (o : Option ℕ) → IfSome o P → ForSome o P
+if_some P None h w e = let z : ◌≡◌ {A = ℕ} 0 1 = cc in absurd (omega arith)
+if_some P (Some v) h w e = let z : v ≡ w = cc in rw z at h
 
 pub inv_start : {book ws : List ℕ} {k : ℕ} {x : Back} {left : ℕ} (term : Option ℕ) → IfSome term (FirstIs book ws x.made (x.atom / 4096 - 1) (x.atom % 4096)) → (threads : List Thread) × ToClause book ws k x threads
     → PassInv book ws ws k x left term x 0
@@ -193,18 +173,18 @@ inv_start {book} {ws} {x = x} {left = left} term F S = record {
   within = omega arith;
   programs = refl;
   memo = stays_none book x.programs ws;
-  first = if_some term F;
+  first = if_some _ term F;
   some = S;
   passes = λ ts X. (ts, X, pass_none left ts);
 }
 
 module _ {book ws₀ ws : List ℕ} {k : ℕ} {x : Back} {left : ℕ} {term : Option ℕ} where
   -- the memo where the search is asked
-  pub inv_memo : (y : Back) (used n : ℕ) → PassInv book ws₀ ws k x left w y used → Memo book ws₀ x.programs n → (m : ℕ) × Memo book ws y.programs m
+  pub inv_memo : (y : Back) (used n : ℕ) → PassInv book ws₀ ws k x left term y used → Memo book ws₀ x.programs n → (m : ℕ) × Memo book ws y.programs m
   inv_memo y used n I M = (n, rw I.programs (I.memo.1 n M))
 
   -- the search has written the memo
-  pub inv_sought : {ws' : List ℕ} (y : Back) (used : ℕ) → PassInv book ws₀ ws k x left w y used → MemoStays book y.programs ws ws' → PassInv book ws₀ ws' k x left w y used
+  pub inv_sought : {ws' : List ℕ} (y : Back) (used : ℕ) → PassInv book ws₀ ws k x left term y used → MemoStays book y.programs ws ws' → PassInv book ws₀ ws' k x left term y used
   inv_sought y used I M = record {
     within = I.within;
     programs = I.programs;
@@ -214,11 +194,11 @@ module _ {book ws₀ ws : List ℕ} {k : ℕ} {x : Back} {left : ℕ} {term : Op
     passes = λ ts X. let p = I.passes ts X in (p.0, clause_only M.0 p.1, p.2);
   }
 
-  pub inv_next : (y : Back) (used : ℕ) (o : Option Place) → PassInv book ws₀ ws k x left w y used → NextIs book ws y o → (threads : List Thread) → ToClause book ws₀ k x threads → PassGives book ws k x left threads (Next y o used)
+  pub inv_next : (y : Back) (used : ℕ) (o : Option Place) → PassInv book ws₀ ws k x left term y used → NextIs book ws y o → (threads : List Thread) → ToClause book ws₀ k x threads → PassGives book ws k x left threads (Next y o used)
   inv_next y used o I N ts X = let p = I.passes ts X in comes {threads' = p.0} I.programs I.within N p.1 p.2
 
   -- the candidate y clashes, and the one after it is o
-  module _ (R : Readable book) (A : Accepted book) (y : Back) (used : ℕ) (I : PassInv book ws₀ ws k x left w y used) (h : 1 < left - used) (c : ℕ) (ce : c ≡ (place_of book ws y.node y.index).clause)
+  module _ (R : Readable book) (A : Accepted book) (y : Back) (used : ℕ) (I : PassInv book ws₀ ws k x left term y used) (h : 1 < left - used) (c : ℕ) (ce : c ≡ (place_of book ws y.node y.index).clause)
       (C : IsSomeAnd term (λ w. Clashes book y.made w c)) (o : Option Place) (N : NextIs book ws y o) where
     one : (ts : List Thread) → ToClause book ws k y ts → OnePass book ws k y ts o
     one ts X = by term I.first C
@@ -227,7 +207,7 @@ module _ {book ws₀ ws : List ℕ} {k : ℕ} {x : Back} {left : ℕ} {term : Op
         by None F D = absurd D
         by (Some w) F D = one_pass book R A ws k y ts X w (F w refl) c ce D.room D o N
 
-    pub inv_more : (p : Place) (y' : Back) → o ≡ Some p → y' ≡ moved y p.program p.clause → PassInv book ws₀ ws k x left w y' (used + 2)
+    pub inv_more : (p : Place) (y' : Back) → o ≡ Some p → y' ≡ moved y p.program p.clause → PassInv book ws₀ ws k x left term y' (used + 2)
     inv_more p y' e d = rw d (record {
       within = omega (arith, I.within);
       programs = I.programs;

@@ -72,12 +72,12 @@ module _ (book : List ℕ) (ws : List ℕ) (k : ℕ) (x : Back) (threads : List 
   -- the numbers that are kept are small
   abbrev Small : ℕ → ℕ → Type 0
   Small q i =
-      ((k < 512) × (length ws ≡ 16384))
+      (k < 512)
       × (((x.made < 4096) × (x.trail < 4096) × (x.cells < 4096) × (x.programs < 4096) × (x.cell < 4096) × (x.taken < 4096)) × ((x.supposed < 256) × (x.call < 1024) × (q < 1024) × (i < 2048)))
 
   keep_small : Accepted book → (q i : ℕ) {after : List Force} → IsRest book ws x.made x.programs q i after → Small q i
   keep_small A q i r = (
-    (kept_below, S.slots.size),
+    kept_below,
     (
       (
         omega (arith, S.slots.room),

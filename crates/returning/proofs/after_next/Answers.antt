@@ -5,8 +5,8 @@ use Rattle.returning.proofs.RenewLaws.{atom_large, atom_inside, atom_few, candid
 use Rattle.returning.proofs.MemoFrames.{next_only}
 use Rattle.returning.proofs.after_next.Goals as goal
 
-pub overflow_sub-head : goal.overflow_sub-head
-overflow_sub-head c = omega (arith, atom_large _ _ _ _ _ c.requires.to_clause.1)
+pub overflow_sub-x : goal.overflow_sub-x
+overflow_sub-x c = omega (arith, atom_large _ _ _ _ _ c.requires.to_clause.1)
 
 pub read-head-requires : goal.read-head-requires
 read-head-requires c = atom_inside _ _ _ _ _ c.requires.to_clause.1

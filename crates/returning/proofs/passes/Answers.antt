@@ -5,9 +5,6 @@ use Rattle.returning.proofs.TryNeeds.{clause_inside}
 use Rattle.returning.proofs.PassLaws.{never, clash_ready}
 use Rattle.returning.proofs.passes.Goals as goal
 
-pub returns-in-None : goal.returns-in-None
-returns-in-None c = never
-
 pub place-p-requires : goal.place-p-requires
 place-p-requires c = let p = c.requires in record { accepted = p.accepted; leads = leads _ c.args.book.now.readable p.accepted _ _ _ _ p.to_clause.1 }
 

@@ -149,6 +149,7 @@ fn outcome(x: Back, made: u32, n: u32, l: Front, u: Unified) -> Stepped
 }
 
 // Passing over candidates: the numbers with the one that is tried next, and the candidate after it; or there is none left. With the units that it took.
+// An enum of its own: neither case is a failure or the lack of a value, and each has numbers.
 #[derive(Clone, Copy)]
 pub enum Passed {
     Next(Back, Option<Place>, u32),

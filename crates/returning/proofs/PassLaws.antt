@@ -77,10 +77,6 @@ module _ (book : List ℕ) (R : Readable book) (A : Accepted book) (ws : List �
         let y = atom_base book ws k x threads X in
         rw (z, y) ((first_ready book R A ws k x threads X some_here).0, first_good book R A ws k x threads X some_here)
 
-    pub first_is : (first t w₀ w : ℕ) → first ≡ field book (x.atom / 4096 - 1) 3 → t ≡ field book first 1 → w₀ ≡ word_for book (x.atom % 4096) t → ReadThrough book x.made ws w₀ w → 4096 ≤ w
-        → FirstIs book ws x.made (x.atom / 4096 - 1) (x.atom % 4096) w
-    first_is first t w₀ w e f g r l = record { some = omega arith; read = rw (g, f, e) at r; large = l }
-
   -- ONE CANDIDATE
   module _ (w : ℕ) (F : FirstIs book ws x.made (x.atom / 4096 - 1) (x.atom % 4096) w) where
     first_here : FirstIs book ws x.made X.a X.e w
@@ -303,6 +299,3 @@ module _ (book : List ℕ) (R : Readable book) (A : Accepted book) (ws₀ ws : L
         go : {o : Passed} → PassGives book ws k x left s.0 o → o ≡ Through y used → y.programs ≤ x.programs
         go (ends {y = a} i h l G Q) e = let v : a ≡ y = cc in omega (arith, rw v at i)
         go (comes i h N Y Q) e = let z : ◌≡◌ {A = ℕ} 0 1 = cc in absurd (omega arith)
-
-pub never {ℓ} : {X : Type ℓ} → ◌≡◌ {A = Bool} false true → X
-never e = let z : ◌≡◌ {A = ℕ} 0 1 = cc in absurd (omega arith)

@@ -72,27 +72,24 @@ module _ (book : List ℕ) (ws : List ℕ) (k : ℕ) (x : Back) (threads : List 
   -- the numbers that are kept are small
   abbrev Small : ℕ → ℕ → Type 0
   Small q i =
-      (k < 512)
-      × (((x.made < 4096) × (x.trail < 4096) × (x.cells < 4096) × (x.programs < 4096) × (x.cell < 4096) × (x.taken < 4096)) × ((x.supposed < 256) × (x.call < 1024) × (q < 1024) × (i < 2048)))
+      ((x.made < 4096) × (x.trail < 4096) × (x.cells < 4096) × (x.programs < 4096) × (x.cell < 4096) × (x.taken < 4096))
+      × ((x.supposed < 256) × (x.call < 1024) × (q < 1024) × (i < 2048))
 
   keep_small : Accepted book → (q i : ℕ) {after : List Force} → IsRest book ws x.made x.programs q i after → Small q i
   keep_small A q i r = (
-    kept_below,
     (
-      (
-        omega (arith, S.slots.room),
-        omega (arith, trail_room),
-        omega (arith, S.cells_most),
-        omega (arith, S.programs_most),
-        omega (arith, goals_below S.cells_some X.again.there.goals, S.cells_most),
-        omega (arith, X.with.most),
-      ),
-      (
-        rw X.again.flagged (flag_small X.again.supposed),
-        X.with.called,
-        omega (arith, rest_below S.programs_some r, S.programs_most),
-        omega (arith, rest_number A r),
-      ),
+      omega (arith, S.slots.room),
+      omega (arith, trail_room),
+      omega (arith, S.cells_most),
+      omega (arith, S.programs_most),
+      omega (arith, goals_below S.cells_some X.again.there.goals, S.cells_most),
+      omega (arith, X.with.most),
+    ),
+    (
+      rw X.again.flagged (flag_small X.again.supposed),
+      X.with.called,
+      omega (arith, rest_below S.programs_some r, S.programs_most),
+      omega (arith, rest_number A r),
     ),
   )
 

@@ -9,9 +9,6 @@ use Rattle.returning.specs.Reentry.{regs_kept}
 use borrow.Author.Rules.{rules}
 use Rattle.returning.proofs.go_on.Goals as goal
 
-pub overflow_sub-left : goal.overflow_sub-left
-overflow_sub-left c = let p = c.requires in (clause_asked _ _ _ _ p.can_go_on c.in-Clause.is).0
-
 pub try_all-s-requires : goal.try_all-s-requires
 try_all-s-requires c = let p = c.requires in let s = clause_asked _ _ _ _ p.can_go_on c.in-Clause.is in record { accepted = (p.accepted, s.1); to_clause = s.2; memo = memo_asked _ _ _ _ _ _ _ c.in-Clause.is p.memo_reached }
 

@@ -7,14 +7,8 @@ use Rattle.steps.proofs.RunLaws.{units_most}
 use Rattle.returning.proofs.MemoFrames.{memo_ended, memo_later}
 use Rattle.returning.proofs.try_all.Goals as goal
 
-pub pass_over-requires : goal.pass_over-requires
-pass_over-requires c = let p = c.requires in record { accepted = p.accepted; to_clause = p.to_clause; memo = p.memo }
-
 pub returns-then-left-used : goal.returns-then-left-used
 returns-then-left-used c = let p = c.requires in record { tries = (λ r threads h X. pass_budget _ c.args.book.now.readable p.accepted.0 _ _ _ _ _ _ c.pass_over.ensures.pass_gives c.pass_over.ensures.memo_stays _ _ _ c.in-Next.is r c.if-left-used.true threads X); memo_stepped = memo_ended _ _ _ _ _ }
-
-pub overflow_sub-left : goal.overflow_sub-left
-overflow_sub-left c = omega (arith, c.if-left-used.false)
 
 pub try_next-requires : goal.try_next-requires
 try_next-requires c = let p = c.requires in let s = pass_some _ c.args.book.now.readable p.accepted.0 _ _ _ _ _ _ c.pass_over.ensures.pass_gives c.pass_over.ensures.memo_stays _ _ _ c.in-Next.is p.to_clause in let M = pass_memo _ c.args.book.now.readable p.accepted.0 _ _ _ _ _ _ c.pass_over.ensures.pass_gives c.pass_over.ensures.memo_stays _ _ _ c.in-Next.is p.to_clause p.memo in record { accepted = (p.accepted.0, s.2); left_nonzero = omega (arith, c.if-left-used.false); to_clause = s.1; memo = M }

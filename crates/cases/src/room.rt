@@ -1,4 +1,4 @@
-// The buffers of all calls, and a call in them.
+// The buffers of all calls, and a call in them. They are arrays of the most that a case may have: the programs take no memory from a heap.
 use crate::case::Case;
 use crate::compare::{fill, first_wrong};
 use crate::report::Wrong;

@@ -93,6 +93,7 @@ fn run_case(input: &mut impl Read, c: Case, book: &mut [u8], ws: &mut [u32]) -> 
 }
 
 fn main(rt: HostRuntime) -> io::Result<()> {
+    // Arrays of the most that a case may have: the programs take no memory from a heap.
     let mut book = [0u8; 65552];
     let mut ws = [0u32; 16385];
     // How many cases there were of each number, 0 for the books that are taken.

@@ -44,8 +44,8 @@ fn answer(rt: &(impl Print + Eprint), book: &[u8]) {
     }
 }
 
-// The room has one byte more than the longest book: an input that fills it is too long, and is refused as such. A read that fails is no end: nothing is answered
-// then.
+// The room has one byte more than the longest book: an input that fills it is too long, and is refused as such. It is an array, since the programs take no memory
+// from a heap. A read that fails is no end: nothing is answered then.
 fn main(rt: HostRuntime) {
     let mut room = [0u8; 65537];
     match read_full(&mut rt.stdin(), &mut room) {

@@ -7,8 +7,9 @@ use native.Mathlib.Omega.{arith}
 use lib.Dec.{leb, eqb}
 use lib.ListN.{length, get_or, length-map}
 use lib.Seq.{ext_get_or}
-use Rattle.book.specs.declared.Verdict.{Verdict}
-use Rattle.book.specs.declared.Verdict.TheVariants.{Fine, Refused}
+use Rattle.std.specs.Prelude.{Ok, Err}
+use Rattle.book.specs.declared.Refusal.{Refusal}
+use Rattle.book.specs.Scan.{Verdict, fine}
 use Rattle.book.specs.Tree.{Question}
 use Rattle.book.specs.Scoped.{ScopedQuestion}
 use Rattle.book.specs.Refusals.{room_fits, verdict}
@@ -17,7 +18,6 @@ use Rattle.book.proofs.Tests.{and_true, eqb_says}
 use Rattle.book.proofs.Accepted.{Accepted, call_accepted}
 use Rattle.book.proofs.AcceptedScoped.{accepted_scoped}
 use Rattle.machine.specs.declared.Ending.TheVariants.{Complete}
-use Rattle.machine.specs.declared.Outcome.TheVariants.{Ended}
 use Rattle.machine.specs.Term.{Term, app, nil, sub}
 use Rattle.machine.specs.Store.{Entry}
 use Rattle.machine.specs.Answers.{Line, terms_of, answer_in}
@@ -38,13 +38,13 @@ pub record Answered (q : Question) (x : Called) (ss : List (List Entry)) : Type 
   pub reads : (k : ℕ) → k < x.reply.tally.answers → AnswerOf (get_or ss k []) q.unknowns (terms k)
   pub right : (k : ℕ) → k < x.reply.tally.answers → (τ : ℕ → Term) → Follows q (map (sub τ) (terms k))
   pub said : (k : ℕ) → k < x.reply.tally.answers → Renumbered (terms k) (answer_in x.out k)
-  pub covers : x.reply.outcome ≡ Ended Complete → (ts : List Term) → Derivable q ts → (k : ℕ) × (k < x.reply.tally.answers) × InstanceOf (terms k) ts
+  pub covers : x.reply.outcome ≡ Ok Complete → (ts : List Term) → Derivable q ts → (k : ℕ) × (k < x.reply.tally.answers) × InstanceOf (terms k) ts
 
 -- A REFUSED CALL
 
-none_answered : (q : Question) (workspace out : List ℕ) (t r : ℕ) → Answered q (declined workspace out t r) []
+none_answered : (q : Question) (workspace out : List ℕ) (x : Refusal) → Answered q (declined workspace out x) []
 unfolding declined
-none_answered q workspace out t r = record {
+none_answered q workspace out x = record {
   terms = λ k. [];
   counted = refl;
   reads = λ k l. absurd (omega arith);
@@ -63,7 +63,7 @@ room_eight words buffer wanted e =
     let z = and_true (leb buffer 65536) (eqb (buffer % 8) 0) y.0 in
     eqb_says (buffer % 8) 0 z.1
 
-module _ (book : List ℕ) (budget wanted words size : ℕ) (v : verdict words size wanted book ≡ Fine) where
+module _ (book : List ℕ) (budget wanted words size : ℕ) (v : verdict words size wanted book ≡ fine) where
   ok : (room_fits words size wanted ≡ true) × Accepted book
   ok = call_accepted words size wanted book v
 
@@ -130,10 +130,10 @@ unfolding call stores_of
 call_answered book budget wanted workspace out = go (verdict (length workspace) (length out) wanted book) refl
   where
     go : (v : Verdict) → verdict (length workspace) (length out) wanted book ≡ v → Answered (question_of book)
-        (elim v [ Fine ↦ accepted (length workspace) (length out) (run_of book budget wanted (length out)) | Refused t r ↦ declined workspace out t r ])
+        (elim v [ Ok _ ↦ accepted (length workspace) (length out) (run_of book budget wanted (length out)) | Err x ↦ declined workspace out x ])
         (elim v [
-          | Fine ↦ stores_given (record { unknowns = (question_of book).unknowns; wanted = wanted; places = length out / 8 }) budget (start (question_of book))
-          | Refused t r ↦ []
+          | Ok _ ↦ stores_given (record { unknowns = (question_of book).unknowns; wanted = wanted; places = length out / 8 }) budget (start (question_of book))
+          | Err x ↦ []
         ])
-    go Fine e = accepted_answered book budget wanted (length workspace) (length out) e
-    go (Refused t r) e = none_answered (question_of book) workspace out t r
+    go (Ok _) e = accepted_answered book budget wanted (length workspace) (length out) e
+    go (Err x) e = none_answered (question_of book) workspace out x

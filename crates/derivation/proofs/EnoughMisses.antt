@@ -4,10 +4,11 @@ use mathlib.Core.List.Memᴰ
 use mathlib.Core.List.{[], ◌∷◌, map}
 use Prim.Native.Nat.{ℕ, ◌<◌}
 use native.Mathlib.Omega.{arith}
+use Rattle.std.specs.Prelude.{Ok}
 use Rattle.book.specs.Records.{record_at, field, records, last_record, members}
 use Rattle.book.specs.Kinds.{kind_of, kind_at, is_goal, is_term}
 use Rattle.book.specs.Scan.{lowest_failing, lower}
-use Rattle.book.specs.Fields.{kind_fits, run_fits, body_fits, fields_fit_as, fields_fit}
+use Rattle.book.specs.Fields.{kind_fits, zeros, zero_from, run_fits, body_fits, fields_fit_as, fields_fit}
 use Rattle.book.specs.Targets.{goal_at_kind, argument_link, clause_link, is_tie, each_of, body_target, targets_fit_as, targets_fit}
 use Rattle.book.specs.Pointing.{body_pointer, pointers_as, pointers, all_pointers, times, once}
 use Rattle.book.specs.Scope.{scope_fault, is_new, tie_scope, own_tie_scope, over_links, body_scope, scope_by, scope_at, own_clause_scope, scope_test}
@@ -21,14 +22,13 @@ use Rattle.machine.specs.Answers.{before, place_of, note, write, bytes_of, lines
 use Rattle.machine.specs.Run.{counted, given, go_on, answering, after, step, run, start, solved}
 use Rattle.machine.specs.Call.{filled_buffer, run_of, accepted, call}
 use Rattle.machine.specs.declared.Ending.TheVariants.{Enough}
-use Rattle.machine.specs.declared.Outcome.TheVariants.{Ended}
 use Rattle.derivation.specs.Derivation.{Follows, clause_used, nothing_to_derive}
 use Rattle.derivation.specs.Demand3.{Derivable}
 use Rattle.derivation.specs.Examples.{a, b, two_facts, asked_for_one, EnoughComplete}
 
 -- what the call replies and leaves, by computation from the bytes
-replied : (asked_for_one.reply.outcome ≡ Ended Enough) × (asked_for_one.reply.tally.answers ≡ 1) × (answer_in asked_for_one.out 0 ≡ app a nil ∷ [])
-unfolding record_at field records last_record members kind_of kind_at is_goal is_term lowest_failing lower kind_fits run_fits body_fits fields_fit_as fields_fit goal_at_kind argument_link clause_link is_tie each_of body_target targets_fit_as targets_fit body_pointer pointers_as pointers all_pointers times once scope_fault is_new tie_scope own_tie_scope over_links body_scope scope_by scope_at own_clause_scope scope_test room_fits size_fits kind_ok fields_ok targets_ok kind_test field_test target_test tree_test record_tests book_verdict verdict count_texts tie_of texts_from text_by text_at text_of arguments_of ties_from clauses_from goal_by body_by clause_by goal_at goal_of clause_of clauses_of question_of count fill spread pair_up entry_at follow walk entry_for new_entries settle candidates added try_all taking solve with_body_of enter order pair look_on look advance before place_of note write bytes_of lines_in lines_for first_terms push_line terms_of answer_in counted given go_on answering after step run start solved filled_buffer run_of accepted call two_facts asked_for_one
+replied : (asked_for_one.reply.outcome ≡ Ok Enough) × (asked_for_one.reply.tally.answers ≡ 1) × (answer_in asked_for_one.out 0 ≡ app a nil ∷ [])
+unfolding record_at field records last_record members kind_of kind_at is_goal is_term lowest_failing lower kind_fits zeros zero_from run_fits body_fits fields_fit_as fields_fit goal_at_kind argument_link clause_link is_tie each_of body_target targets_fit_as targets_fit body_pointer pointers_as pointers all_pointers times once scope_fault is_new tie_scope own_tie_scope over_links body_scope scope_by scope_at own_clause_scope scope_test room_fits size_fits kind_ok fields_ok targets_ok kind_test field_test target_test tree_test record_tests book_verdict verdict count_texts tie_of texts_from text_by text_at text_of arguments_of ties_from clauses_from goal_by body_by clause_by goal_at goal_of clause_of clauses_of question_of count fill spread pair_up entry_at follow walk entry_for new_entries settle candidates added try_all taking solve with_body_of enter order pair look_on look advance before place_of note write bytes_of lines_in lines_for first_terms push_line terms_of answer_in counted given go_on answering after step run start solved filled_buffer run_of accepted call two_facts asked_for_one
 replied = (refl, refl, refl)
 
 -- X = b is derivable, by the second clause

@@ -1,5 +1,5 @@
 -- Questions for the worked examples of proofs/Examples, and the book and statement that proofs/EnoughMisses refutes.
-use Rattle.std.specs.Prelude.{◌≡◌, List, [], ◌∷◌, ◌++◌, false, ℕ, zero, suc, ◌<◌, replicate}
+use Rattle.std.specs.Prelude.{◌≡◌, List, [], ◌∷◌, ◌++◌, false, ℕ, zero, suc, ◌<◌, replicate, Ok}
 use Rattle.book.specs.Tree.{Text, Texts, offset, compound, no_text, and_text, Tie, Goal, Clauses, atom, and, suppose, clause, no_body, no_clause, and_clause, Question}
 use Rattle.book.specs.Decode.{question_of}
 use Rattle.machine.specs.Term.{Term, Terms, var, cons, nil}
@@ -7,7 +7,6 @@ use Rattle.machine.specs.Store.{open_entry, same, bound}
 use Rattle.machine.specs.Machine.{Branch, Thread, on, answered, stop, advance}
 use Rattle.machine.specs.Answers.{answer_in}
 use Rattle.machine.specs.declared.Ending.TheVariants.{Enough}
-use Rattle.machine.specs.declared.Outcome.TheVariants.{Ended}
 use Rattle.machine.specs.Call.{Called, call}
 use Rattle.derivation.specs.Demand3.{Derivable, InstanceOf}
 
@@ -104,5 +103,5 @@ asked_for_one = call two_facts 1_000_000 1 (replicate 16384 0) (replicate 64 0)
 
 -- what is NOT promised: `SearchComplete` with ending 1 in the place of 0
 abbrev pub EnoughComplete : List ℕ → Called → Type 0
-EnoughComplete book x = x.reply.outcome ≡ Ended Enough → (ts : List Term) → Derivable (question_of book) ts
+EnoughComplete book x = x.reply.outcome ≡ Ok Enough → (ts : List Term) → Derivable (question_of book) ts
     → (k : ℕ) × (k < x.reply.tally.answers) × InstanceOf (answer_in x.out k) ts

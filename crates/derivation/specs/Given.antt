@@ -1,6 +1,5 @@
 -- The answers that a run of the machine gives, as terms: the stores of the branches that gave them, and what a store says of the unknowns, fully read through.
-use Rattle.std.specs.Prelude.{◌≡◌, List, [], ◌∷◌, ◌++◌, ℕ, zero, suc, ◌-◌, ◌<◌, ◌/◌, length}
-use Rattle.book.specs.declared.Verdict.TheVariants.{Fine, Refused}
+use Rattle.std.specs.Prelude.{◌≡◌, List, [], ◌∷◌, ◌++◌, ℕ, zero, suc, ◌-◌, ◌<◌, ◌/◌, length, Ok, Err}
 use Rattle.book.specs.Refusals.{verdict}
 use Rattle.book.specs.Decode.{question_of}
 use Rattle.machine.specs.Term.{Term, Terms, var, app, nil, cons}
@@ -44,6 +43,6 @@ stores_given q (suc n) s = given_by q s (advance s.thread) ++ elim (step q s) [ 
 -- the stores of the answers of a call, in order; a refused call gives none
 unfoldable pub stores_of : List ℕ → ℕ → ℕ → List ℕ → List ℕ → List (List Entry)
 stores_of book budget wanted workspace out = elim (verdict (length workspace) (length out) wanted book) [
-  | Fine ↦ stores_given (record { unknowns = (question_of book).unknowns; wanted = wanted; places = length out / 8 }) budget (start (question_of book))
-  | Refused t r ↦ []
+  | Ok _ ↦ stores_given (record { unknowns = (question_of book).unknowns; wanted = wanted; places = length out / 8 }) budget (start (question_of book))
+  | Err e ↦ []
 ]

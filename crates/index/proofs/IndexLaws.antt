@@ -3,15 +3,17 @@ use mathlib.Core.Path.{◌≡◌, refl, sym, ◌∙◌, ap}
 use mathlib.Core.Logic.{◌⊎◌, inl, inr}
 use mathlib.Core.Bool.{true}
 use mathlib.Core.List.{List}
-use Prim.Native.Nat.{ℕ, zero, suc, ◌+◌, ◌-◌, ◌*◌, ◌/◌, ◌%◌, ◌≤◌, ◌<◌}
+use Prim.Native.Nat.{ℕ, ◌+◌, ◌-◌, ◌*◌, ◌/◌, ◌%◌, ◌≤◌, ◌<◌}
 use native.Mathlib.Omega.{arith}
 use native.Mathlib.Decide.{dec_lt, ℕ_discrete}
 use borrow.Author.Tests.{lt-ltb, le-ltb}
 use lib.ListN.{length, get_or, set, length-set}
 use lib.Seq.{get_or-set_same, get_or-set_other}
+use Rattle.std.proofs.Common.{take, drop, ◌++◌, replicate, length-drop, length-append}
+use Rattle.std.proofs.lemmas.List.{length-take-le, length-replicate, get_or_append_left, get_or-append_right, get_or-take, get_or-replicate, get_or-drop}
 use Rattle.book.specs.Records.{field}
 use Rattle.words.specs.Frame.{Keeps}
-use Rattle.words.proofs.StackLaws.{keeps_refl, keeps_trans, keeps_narrow, keeps_set}
+use Rattle.words.proofs.StackLaws.{keeps_refl, keeps_trans, keeps_set}
 use Rattle.index.specs.Runs.{head_matches}
 use Rattle.index.specs.Index.{head_bucket, bucket_of, start_of, is_last, next_last, last_match, link_or, word_of, entry_of, Listed, Indexed, EmptyFrom, IndexedFrom}
 use Rattle.index.proofs.BucketLaws.{matching_bucket}
@@ -39,20 +41,46 @@ module _ (book : List ℕ) (first n : ℕ) where
   entry_clause : n ≤ 1024 → (i : ℕ) → i < n → entry_of book first n i / 1048576 ≡ field book (first + i) 1
   entry_clause m i h = rw (← entry_here i h) (omega arith)
 
--- EMPTYING
-pub empty_none : (n : ℕ) (ws : List ℕ) → EmptyFrom n 0 ws ws
-empty_none n ws = record { firsts = λ x h. absurd (omega arith); below = keeps_refl 0 4096 ws; above = keeps_refl (4096 + 0) 16384 ws }
+-- EMPTYING: a part of the words is filled with n, and the rest stays
+module _ (n at k : ℕ) (ws ys : List ℕ) (l : at + k ≤ length ws) (e : ys ≡ replicate k n) where
+  abbrev filled : List ℕ
+  filled = take at ws ++ (ys ++ drop k (drop at ws))
 
-pub empty_more : (n b : ℕ) (ws ws₁ : List ℕ) → b < 1024 → length ws ≡ 16384 → EmptyFrom n b ws ws₁ → EmptyFrom n (b + 1) ws (set ws₁ (4096 + b) n)
-empty_more n b ws ws₁ h l E = record {
-  firsts = λ x a. go x a (dec_lt x b);
-  below = keeps_trans E.below (keeps_set 0 4096 ws₁ (4096 + b) n (inr (omega arith)));
-  above = keeps_trans (keeps_narrow (omega arith) (omega arith) E.above) (keeps_set (4096 + (b + 1)) 16384 ws₁ (4096 + b) n (inl (omega arith)));
-}
-  where
-    go : (x : ℕ) → x < b + 1 → Dec (x < b) → get_or (set ws₁ (4096 + b) n) (4096 + x) 0 ≡ n
-    go x a (yes y) = get_or-set_other ws₁ (4096 + b) (4096 + x) n 0 (λ z. omega arith) ∙ E.firsts x y
-    go x a (no y) = let e : x ≡ b = omega arith in rw e (get_or-set_same ws₁ (4096 + b) n 0 (omega (arith, E.below.size, l)))
+  before : length (take at ws) ≡ at
+  before = length-take-le at ws (omega arith)
+
+  within : length ys ≡ k
+  within = rw e (length-replicate k n)
+
+  filled_size : length filled ≡ length ws
+  filled_size = simp (length-append, length-drop) (omega (arith, before, within, l))
+
+  filled_below : (x : ℕ) → x < at → get_or filled x 0 ≡ get_or ws x 0
+  filled_below x h = get_or_append_left (take at ws) (ys ++ drop k (drop at ws)) 0 x (omega (arith, before)) ∙ get_or-take at ws x 0 h
+
+  filled_here : (x : ℕ) → x < k → get_or filled (at + x) 0 ≡ n
+  filled_here x h =
+      let z : at + x - at ≡ x = omega arith in
+      get_or-append_right (take at ws) (ys ++ drop k (drop at ws)) at (at + x) 0 before (omega arith)
+      ∙ rw z (get_or_append_left ys (drop k (drop at ws)) 0 x (omega (arith, within)) ∙ rw e (get_or-replicate k x n 0 h))
+
+  filled_above : (x : ℕ) → at + k ≤ x → get_or filled x 0 ≡ get_or ws x 0
+  filled_above x h =
+      let z : at + (k + (x - at - k)) ≡ x = omega arith in
+      get_or-append_right (take at ws) (ys ++ drop k (drop at ws)) at x 0 before (omega arith)
+      ∙ get_or-append_right ys (drop k (drop at ws)) k (x - at) 0 within (omega arith)
+      ∙ get_or-drop k (drop at ws) (x - at - k) 0 ∙ get_or-drop at ws (k + (x - at - k)) 0 ∙ rw z refl
+
+pub emptied : (n : ℕ) (ws ys : List ℕ) → length ws ≡ 16384 → ys ≡ replicate (length (take 1024 (drop 4096 ws))) n → EmptyFrom n 1024 ws (take 4096 ws ++ (ys ++ drop 1024 (drop 4096 ws)))
+emptied n ws ys l d =
+    let long : length (take 1024 (drop 4096 ws)) ≡ 1024 = length-take-le 1024 (drop 4096 ws) (simp length-drop (omega (arith, l))) in
+    let e : ys ≡ replicate 1024 n = rw long at d in
+    let s = filled_size n 4096 1024 ws ys (omega (arith, l)) e in
+    record {
+      firsts = filled_here n 4096 1024 ws ys (omega (arith, l)) e;
+      below = record { size = s; same = λ x a b. filled_below n 4096 1024 ws ys (omega (arith, l)) e x b };
+      above = record { size = s; same = λ x a b. filled_above n 4096 1024 ws ys (omega (arith, l)) e x a };
+    }
 
 -- MAKING
 pub made_none : (book : List ℕ) (first n : ℕ) (ws ws₁ : List ℕ) → EmptyFrom n 1024 ws ws₁ → IndexedFrom book first n n ws₁ ws₁
@@ -62,36 +90,6 @@ made_none book first n ws ws₁ E = record {
   below = keeps_refl 0 4096 ws₁;
   between = keeps_refl 5120 (5120 + n) ws₁;
   above = keeps_refl (5120 + n) 16384 ws₁;
-}
-
-pub made_from : (book : List ℕ) (first n i : ℕ) (ws ws₁ ws₂ : List ℕ) → i ≤ 0 → EmptyFrom n 1024 ws ws₁ → IndexedFrom book first n i ws₁ ws₂ → IndexedFrom book first n 0 ws ws₂
-made_from book first n zero ws ws₁ ws₂ z E I = record {
-  firsts = I.firsts;
-  nexts = I.nexts;
-  below = keeps_trans E.below I.below;
-  between = keeps_trans (keeps_narrow (omega arith) (omega arith) E.above) I.between;
-  above = keeps_trans (keeps_narrow (omega arith) (omega arith) E.above) I.above;
-}
-made_from book first n (suc i) ws ws₁ ws₂ z E I = absurd (omega arith)
-
--- the words, whatever they were before
-pub made_here : (book : List ℕ) (first n i : ℕ) (ws ws₁ : List ℕ) → IndexedFrom book first n i ws ws₁ → IndexedFrom book first n i ws₁ ws₁
-made_here book first n i ws ws₁ I = record {
-  firsts = I.firsts;
-  nexts = I.nexts;
-  below = keeps_refl 0 4096 ws₁;
-  between = keeps_refl 5120 (5120 + i) ws₁;
-  above = keeps_refl (5120 + n) 16384 ws₁;
-}
-
--- one more clause entered
-pub made_more : (book : List ℕ) (first n i : ℕ) (ws ws₁ ws₂ : List ℕ) → IndexedFrom book first n (i + 1) ws ws₁ → IndexedFrom book first n i ws₁ ws₂ → IndexedFrom book first n i ws ws₂
-made_more book first n i ws ws₁ ws₂ I J = record {
-  firsts = J.firsts;
-  nexts = J.nexts;
-  below = keeps_trans I.below J.below;
-  between = keeps_trans (keeps_narrow (omega arith) (omega arith) I.between) J.between;
-  above = keeps_trans I.above J.above;
 }
 
 -- the words of the index, read as such

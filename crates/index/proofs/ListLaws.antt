@@ -54,7 +54,7 @@ module _ (book : List ℕ) (first : ℕ) where
   unfolding next_match
   match_bounds f m k n h = let x = such_bounds (matches_at book f m first) k (n - k) in (x.0, omega (arith, x.1))
 
-  match_most : (f m k n z : ℕ) → k ≤ z → z < n → head_matches book f m (field book (first + z) 1) ≡ true → next_match book f m first k (n - k) ≤ z
+  pub match_most : (f m k n z : ℕ) → k ≤ z → z < n → head_matches book f m (field book (first + z) 1) ≡ true → next_match book f m first k (n - k) ≤ z
   unfolding next_match
   match_most f m k n z a b e = such_most (matches_at book f m first) k (n - k) z a (omega arith) e
 

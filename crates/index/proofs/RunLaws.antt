@@ -6,7 +6,10 @@ use Prim.Native.Nat.{ℕ, ◌+◌, ◌-◌, ◌*◌, ◌≤◌, ◌<◌}
 use native.Mathlib.Omega.{arith}
 use borrow.Author.Tests.{eq-eqb, ne_eqb, lt-ltb, le-ltb}
 use native.Mathlib.Decide.{dec_lt}
-use lib.Dec.{eqb}
+use lib.Dec.{eqb, ltb}
+use Rattle.std.specs.Prelude.{Option, Some, None, IfSome}
+use Rattle.std.specs.Bool.{then_some}
+use Rattle.std.proofs.lemmas.Option.{none-some, same_Some}
 use Rattle.book.specs.Records.{field, records}
 use Rattle.book.specs.Kinds.{kind_at, kind_of, suppose_kind}
 use Rattle.book.proofs.Accepted.{Formed}
@@ -15,7 +18,7 @@ use Rattle.book.proofs.Apart.{supposed_links}
 use Rattle.book.proofs.Tests.{Tested, Tested.equal, Tested.other, tested}
 use Rattle.words.specs.Readable.{Readable}
 use Rattle.words.proofs.ReadLaws.{in_book}
-use Rattle.index.specs.Runs.{head_matches, matches_at, next_match, found_among, ClauseRun}
+use Rattle.index.specs.Runs.{head_matches, matches_at, next_match, found_below, ClauseRun}
 use Rattle.index.proofs.SuchLaws.{such_none, such_here, such_on}
 
 -- SUPPOSE GOALS
@@ -40,28 +43,40 @@ suppose_run book R F s h k =
     )
 
 -- WHAT IS FOUND AMONG n
-pub found_yes : (n j : ℕ) → j < n → j + 1 ≡ found_among n j
-unfolding found_among
-found_yes n j h = rw (found_among, lt-ltb j n h) refl
+pub found_yes : (n j : ℕ) → j < n → Some j ≡ found_below n j
+unfolding found_below
+found_yes n j h = rw (found_below, lt-ltb j n h) refl
 
-pub found_no : (n j : ℕ) → n ≤ j → 0 ≡ found_among n j
-unfolding found_among
-found_no n j h = rw (found_among, le-ltb j n h) refl
+pub found_no : (n j : ℕ) → n ≤ j → None ≡ found_below n j
+unfolding found_below
+found_no n j h = rw (found_below, le-ltb j n h) refl
+
+-- as the code says it
+pub found_is : (n j k : ℕ) → k ≡ j → then_some (ltb k n) k ≡ found_below n j
+found_is n j k e = rw e (go (dec_lt j n))
+  where
+    go : Dec (j < n) → then_some (ltb j n) j ≡ found_below n j
+    go (yes l) = rw (lt-ltb j n l) (found_yes n j l)
+    go (no l) = let h : n ≤ j = omega arith in rw (le-ltb j n h) (found_no n j h)
 
 -- and back
-pub found_some : (n j r : ℕ) → r ≡ found_among n j → 0 < r → (j < n) × (r ≡ j + 1)
-found_some n j r e h = go (dec_lt j n)
+pub found_some : (n j r : ℕ) → Some r ≡ found_below n j → (j < n) × (r ≡ j)
+found_some n j r e = go (dec_lt j n)
   where
-    go : Dec (j < n) → (j < n) × (r ≡ j + 1)
-    go (yes l) = (l, e ∙ sym (found_yes n j l))
-    go (no l) = absurd (omega (arith, e ∙ sym (found_no n j (omega arith))))
+    go : Dec (j < n) → (j < n) × (r ≡ j)
+    go (yes l) = (l, same_Some _ _ (e ∙ sym (found_yes n j l)))
+    go (no l) = absurd (none-some r (found_no n j (omega arith) ∙ sym e))
 
-pub found_none : (n j r : ℕ) → r ≡ found_among n j → r ≤ 0 → n ≤ j
-found_none n j r e h = go (dec_lt j n)
+pub found_none : (n j : ℕ) → None ≡ found_below n j → n ≤ j
+found_none n j e = go (dec_lt j n)
   where
     go : Dec (j < n) → n ≤ j
-    go (yes l) = absurd (omega (arith, e ∙ sym (found_yes n j l)))
+    go (yes l) = absurd (none-some j (e ∙ sym (found_yes n j l)))
     go (no l) = omega arith
+
+pub found_within : (n j k : ℕ) (o : Option ℕ) → o ≡ found_below n j → n ≤ k → IfSome o (λ x. x < k)
+found_within n j k None e h = tt
+found_within n j k (Some r) e h = let x = found_some n j r e in omega (arith, x.0, x.1)
 
 -- THE CODE'S TEST OF A HEAD: two numbers in one are compared
 pub heads_both : (book : List ℕ) (f m c h x : ℕ) → h ≡ field book c 4 → (x ≡ field book h 1 + 65536 * field book h 2) × (field book h 1 < 65536) → f < 65536

@@ -1,5 +1,5 @@
 -- The clauses of a run by their heads.
-use Rattle.std.specs.Prelude.{Bool, true, false, ◌&&◌, List, ℕ, zero, suc, ◌+◌, ◌<◌, eqb, ltb}
+use Rattle.std.specs.Prelude.{Bool, true, false, ◌&&◌, List, ℕ, zero, suc, ◌+◌, ◌<◌, eqb, ltb, Option, Some, None}
 use Rattle.book.specs.Records.{field, records}
 
 -- the head of clause record c has symbol f and m arguments
@@ -19,9 +19,9 @@ matches_at book f m first i = head_matches book f m (field book (first + i) 1)
 unfoldable pub next_match : List ℕ → ℕ → ℕ → ℕ → ℕ → ℕ → ℕ
 next_match book f m first k d = next_such (matches_at book f m first) k d
 
--- what is found among n: number j, and 1; 0 if it is none of them
-unfoldable pub found_among : ℕ → ℕ → ℕ
-found_among n j = elim (ltb j n) [ true ↦ j + 1 | false ↦ 0 ]
+-- what is found among n: number j, if it is one of them
+unfoldable pub found_below : ℕ → ℕ → Option ℕ
+found_below n j = elim (ltb j n) [ true ↦ Some j | false ↦ None ]
 
 -- the links of a run of clauses, and the clauses' heads, are in the book
 abbrev pub ClauseRun : List ℕ → ℕ → ℕ → Type 0

@@ -6,18 +6,19 @@ ghost use Rattle.machine.specs.Call.{no_counts};
 
 use machine::{Ending, Tally};
 use running::Ran;
+use words::{Book, Words};
 
 // The run, with the tally lent to it: thin over the run that has it by value.
 fn lent_run(
-    book: &[u8],
-    ws: &mut [u32],
+    book: &Book,
+    ws: &mut Words,
     out: &mut [u8],
     wanted: u32,
     budget: u32,
     tally: &mut Tally,
 ) -> Ending
-    requires { Ready book.now ws.old out.old wanted budget tally.old }
-    ensures { After book.now ws.old out.old wanted budget tally.old result tally.new ws.new out.new }
+    requires { Ready book.now.bytes.now ws.old out.old wanted budget tally.old }
+    ensures { After book.now.bytes.now ws.old out.old wanted budget tally.old result tally.new ws.new out.new }
 {
     let x = starting::whole_run(book, ws, out, wanted, budget, *tally);
     *tally = x.tally;
@@ -25,9 +26,9 @@ fn lent_run(
 }
 
 // A run counted from nothing: the tally is made here, lent for the run, and given back beside the ending.
-pub fn counted_run(book: &[u8], ws: &mut [u32], out: &mut [u8], wanted: u32, budget: u32) -> Ran
-    requires { Ready book.now ws.old out.old wanted budget no_counts }
-    ensures { After book.now ws.old out.old wanted budget no_counts result.ending result.tally ws.new out.new }
+pub fn counted_run(book: &Book, ws: &mut Words, out: &mut [u8], wanted: u32, budget: u32) -> Ran
+    requires { Ready book.now.bytes.now ws.old out.old wanted budget no_counts }
+    ensures { After book.now.bytes.now ws.old out.old wanted budget no_counts result.ending result.tally ws.new out.new }
 {
     let mut tally = Tally {
         units: 0,

@@ -2,7 +2,6 @@
 #![tactic(auto)]
 
 ghost use Rattle.std.specs.Prelude.{◌≡◌, ◌+◌, ◌-◌, ◌*◌, ◌<◌};
-ghost use Rattle.words.specs.Readable.{Readable};
 ghost use Rattle.words.specs.Words.{term_of};
 ghost use Rattle.words.specs.Good.{GoodTerm, Slots};
 ghost use Rattle.words.specs.Frame.{Keeps};
@@ -11,9 +10,12 @@ ghost use Rattle.looks.specs.Runs.{past_of, Listed, Leaves, TermAt, HasRun, Look
 ghost use Rattle.looks.specs.Values.{LinkAt, ValueOf};
 ghost use Rattle.looks.specs.Steps.{LookStepped, LookWent};
 
+use book::Kind;
 use machine::Limit;
+use words::{Book, Words};
 
-// How a part of a run ended: it came to its end, it failed, or it met a limit.
+// How a part of a run ended: it came to its end, it failed, or it met a limit. No Result, as document 01 wants it: to fail is no error of
+// the run, and only the last case holds anything.
 #[derive(Clone, Copy)]
 pub enum How {
     Done,
@@ -29,6 +31,7 @@ pub struct Looked {
 }
 
 // What a text stands for, read through: the open variable v - 1, as word v; or the term of a record at a base.
+// A Result is no plainer here: neither of the two is an error.
 #[derive(Clone, Copy)]
 pub enum Value {
     Open(u32),
@@ -36,17 +39,16 @@ pub enum Value {
 }
 
 // The target of link k, with its variables from b on, read through.
-pub fn value_of(book: &[u8], made: u32, ws: &[u32], k: u32, b: u32) -> Value
-    requires readable { Readable book.now }
-    requires slots { Slots book.now made ws.now }
-    requires link_at { LinkAt book.now made k b }
-    ensures { ValueOf book.now made ws.now (term_of book.now (book_field book.now k 1) b) result }
+pub fn value_of(book: &Book, made: u32, ws: &Words, k: u32, b: u32) -> Value
+    requires slots { Slots book.now.bytes.now made ws.now }
+    requires link_at { LinkAt book.now.bytes.now made k b }
+    ensures { ValueOf book.now.bytes.now made ws.now (term_of book.now.bytes.now (book_field book.now.bytes.now k 1) b) result }
 {
-    let t = words::field(book, k, 1);
-    if words::field(book, t, 0) != 1 {
+    let t = book.field(k, 1);
+    if !book.is(t, Kind::Variable) {
         return Value::At(t, b);
     }
-    let o = words::field(book, t, 1);
+    let o = book.field(t, 1);
     let w = words::read_variable(book, made, ws, b + o);
     if w < 4096 {
         return Value::Open(w);
@@ -84,18 +86,16 @@ pub struct Kept {
 }
 
 // The list without its first term.
-fn look_past(book: &[u8], made: u32, ws: &[u32], s: ToLook) -> LookStep
-    requires slots { Slots book.now made ws.now }
-    requires listed { Listed book.now made ws.now s }
-    ensures { Leaves book.now made ws.now (past_of book.now ws.now s) result }
+fn look_past(book: &Book, made: u32, ws: &Words, s: ToLook) -> LookStep
+    requires slots { Slots book.now.bytes.now made ws.now }
+    requires listed { Listed book.now.bytes.now made ws.now s }
+    ensures { Leaves book.now.bytes.now made ws.now (past_of book.now.bytes.now ws.now s) result }
 {
     if 1 < s.count {
         return LookStep::On(ToLook {
             first: s.first + 1,
             count: s.count - 1,
-            base: s.base,
-            depth: s.depth,
-            waiting: s.waiting,
+            ..s
         });
     }
     if s.depth == 0 {
@@ -105,68 +105,59 @@ fn look_past(book: &[u8], made: u32, ws: &[u32], s: ToLook) -> LookStep
     let count = x / 4096 % 16;
     LookStep::On(ToLook {
         first: x / 65536,
-        count: count,
+        count,
         base: x % 4096,
         depth: s.depth - 1,
         waiting: s.waiting - count,
     })
 }
 
-// The first term of the list is the only one of the run in hand, and is that of record r at base b, which has m arguments from `first`: they
-// take its place.
-fn look_last(
-    book: &[u8],
-    made: u32,
-    ws: &[u32],
-    s: ToLook,
-    r: u32,
-    b: u32,
-    first: u32,
-    m: u32,
-) -> LookStep
-    requires readable { Readable book.now }
-    requires slots { Slots book.now made ws.now }
-    requires listed { Listed book.now made ws.now s × (s.count ≡ 1) }
-    requires term_at { TermAt book.now made r b × HasRun book.now r first m }
-    ensures { LookedInto book.now made ws.now ws.now s r b result }
+// The first term of the list is the only one of the run in hand, and is that of the record of k at base b: the arguments of k take its place.
+fn look_last(book: &Book, made: u32, ws: &Words, s: ToLook, k: Kept, b: u32) -> LookStep
+    requires slots { Slots book.now.bytes.now made ws.now }
+    requires listed { Listed book.now.bytes.now made ws.now s × (s.count ≡ 1) }
+    requires term_at { TermAt book.now.bytes.now made k.rec b × HasRun book.now.bytes.now k.rec k.first k.count }
+    ensures { LookedInto book.now.bytes.now made ws.now ws.now s k.rec b result }
 {
-    if 256 < s.waiting + m {
+    if 256 < s.waiting + k.count {
         return LookStep::Full;
     }
     LookStep::On(ToLook {
-        first: first,
-        count: m,
+        first: k.first,
+        count: k.count,
         base: b,
-        depth: s.depth,
-        waiting: s.waiting,
+        ..s
     })
 }
 
 // The first term of the list is that of record r at base b: its arguments take its place.
-fn look_into(book: &[u8], made: u32, ws: &mut [u32], s: ToLook, r: u32, b: u32) -> LookStep
-    requires readable { Readable book.now }
-    requires slots { Slots book.now made ws.old }
-    requires listed { Listed book.now made ws.old s }
-    requires term_at { TermAt book.now made r b }
+fn look_into(book: &Book, made: u32, ws: &mut Words, s: ToLook, r: u32, b: u32) -> LookStep
+    requires slots { Slots book.now.bytes.now made ws.old }
+    requires listed { Listed book.now.bytes.now made ws.old s }
+    requires term_at { TermAt book.now.bytes.now made r b }
     ensures keeps { Keeps 0 16128 ws.old ws.new }
-    ensures looked_into { LookedInto book.now made ws.old ws.new s r b result }
+    ensures looked_into { LookedInto book.now.bytes.now made ws.old ws.new s r b result }
 {
-    let m = words::field(book, r, 2);
+    let m = book.field(r, 2);
     if m == 0 {
         return look_past(book, made, ws, s);
     }
+    let first = book.field(r, 3);
     if s.count == 1 {
-        let first = words::field(book, r, 3);
-        return look_last(book, made, ws, s, r, b, first, m);
+        let k = Kept {
+            rec: r,
+            first,
+            count: m,
+        };
+        return look_last(book, made, ws, s, k, b);
     }
     let rest = s.waiting + (s.count - 1);
     if 256 < rest + m {
         return LookStep::Full;
     }
     ws[(16128 + s.depth) as usize] = 65536 * (s.first + 1) + (4096 * (s.count - 1) + s.base);
-    let first = words::field(book, r, 3);
     LookStep::On(ToLook {
-        first: first,
+        first,
         count: m,
         base: b,
         depth: s.depth + 1,
@@ -175,27 +166,24 @@ fn look_into(book: &[u8], made: u32, ws: &mut [u32], s: ToLook, r: u32, b: u32) 
 }
 
 // Looks at the first term of the list for variable v - 1.
-fn look_step(book: &[u8], made: u32, ws: &mut [u32], v: u32, k: Kept, s: ToLook) -> LookStep
-    requires readable { Readable book.now }
-    requires slots { Slots book.now made ws.old }
-    requires listed { Listed book.now made ws.old s }
-    requires v_nonzero { (0 < v) × HasRun book.now k.rec k.first k.count }
+fn look_step(book: &Book, made: u32, ws: &mut Words, v: u32, k: Kept, s: ToLook) -> LookStep
+    requires slots { Slots book.now.bytes.now made ws.old }
+    requires listed { Listed book.now.bytes.now made ws.old s }
+    requires v_nonzero { (0 < v) × HasRun book.now.bytes.now k.rec k.first k.count }
     ensures keeps { Keeps 0 16128 ws.old ws.new }
-    ensures look_stepped { LookStepped book.now made ws.old ws.new v s result }
+    ensures look_stepped { LookStepped book.now.bytes.now made ws.old ws.new v s result }
 {
-    let t = words::field(book, s.first, 1);
+    let t = book.field(s.first, 1);
     let b = s.base;
-    if words::field(book, t, 0) != 1 {
+    if !book.is(t, Kind::Variable) {
         return look_into(book, made, ws, s, t, b);
     }
-    let o = words::field(book, t, 1);
+    let o = book.field(t, 1);
     let w = words::read_variable(book, made, ws, b + o);
     if 4096 <= w {
         let r = w / 4096 - 1;
-        if s.count == 1 {
-            if r == k.rec {
-                return look_last(book, made, ws, s, r, w % 4096, k.first, k.count);
-            }
+        if s.count == 1 && r == k.rec {
+            return look_last(book, made, ws, s, k, w % 4096);
         }
         return look_into(book, made, ws, s, r, w % 4096);
     }
@@ -206,13 +194,12 @@ fn look_step(book: &[u8], made: u32, ws: &mut [u32], v: u32, k: Kept, s: ToLook)
 }
 
 // Looks for variable v - 1 in the term of word t, with `left` units of the budget. The first unit is for the term itself.
-pub fn look(book: &[u8], made: u32, ws: &mut [u32], v: u32, t: u32, left: u32) -> Looked
-    requires readable { Readable book.now }
-    requires slots { Slots book.now made ws.old }
-    requires good_term { GoodTerm book.now made t }
+pub fn look(book: &Book, made: u32, ws: &mut Words, v: u32, t: u32, left: u32) -> Looked
+    requires slots { Slots book.now.bytes.now made ws.old }
+    requires good_term { GoodTerm book.now.bytes.now made t }
     requires v_nonzero { 0 < v }
     ensures keeps { Keeps 0 16128 ws.old ws.new }
-    ensures look_went { LookWent book.now made ws.old v t left result.how result.used }
+    ensures look_went { LookWent book.now.bytes.now made ws.old v t left result.how result.used }
 {
     if left == 0 {
         return Looked {
@@ -221,49 +208,45 @@ pub fn look(book: &[u8], made: u32, ws: &mut [u32], v: u32, t: u32, left: u32) -
         };
     }
     let r = t / 4096 - 1;
-    let m = words::field(book, r, 2);
+    let m = book.field(r, 2);
     if m == 0 {
         return Looked {
             how: How::Done,
             used: 1,
         };
     }
-    let first = words::field(book, r, 3);
+    let first = book.field(r, 3);
     let k = Kept {
         rec: r,
-        first: first,
+        first,
         count: m,
     };
     let mut s = ToLook {
-        first: first,
+        first,
         count: m,
         base: t % 4096,
         depth: 0,
         waiting: 0,
     };
-    let mut more = left - 1;
-    loop {
-        if more == 0 {
-            return Looked {
-                how: How::Stopped(Limit::Budget),
-                used: left,
-            };
-        }
+    for used in 1..left {
         match look_step(book, made, ws, v, k, s) {
+            LookStep::On(x) => s = x,
+            LookStep::Over => return Looked {
+                how: How::Done,
+                used: used + 1,
+            },
             LookStep::Found => return Looked {
                 how: How::Failed,
-                used: left - more + 1,
+                used: used + 1,
             },
             LookStep::Full => return Looked {
                 how: How::Stopped(Limit::Lists),
-                used: left - more,
+                used,
             },
-            LookStep::Over => return Looked {
-                how: How::Done,
-                used: left - more + 1,
-            },
-            LookStep::On(x) => s = x,
         }
-        more -= 1;
+    }
+    Looked {
+        how: How::Stopped(Limit::Budget),
+        used: left,
     }
 }

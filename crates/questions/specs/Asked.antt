@@ -1,6 +1,5 @@
 -- What is asked of a book, and what is printed after the call.
-use Rattle.std.specs.Prelude.{◌≡◌, List, [], ◌∷◌, map, true, false, ℕ, ◌/◌, eqb, length, replicate}
-use Rattle.machine.specs.declared.Outcome.TheVariants.{Declined, Ended}
+use Rattle.std.specs.Prelude.{◌≡◌, List, [], ◌∷◌, map, true, false, ℕ, ◌/◌, eqb, length, replicate, Ok, Err}
 use Rattle.machine.specs.Answers.{Line, lines_in}
 use Rattle.machine.specs.Call.{Called, call, reply_numbers}
 use Rattle.questions.specs.Building.{book_of}
@@ -13,7 +12,7 @@ records_said (l ∷ ls) = elim (eqb l.what 0) [ true ↦ [] | false ↦ (l.answe
 -- The lines that the program prints after a call: the reply, then each answer record; refused, the number and the record (after the word `refused`).
 unfoldable pub printed : Called → List (List ℕ)
 printed x = reply_numbers x.reply ∷ elim x.reply.outcome
-    [ Declined t r ↦ [] | Ended e ↦ records_said (lines_in (length x.out / 8) x.out) ]
+    [ Err e ↦ [] | Ok e ↦ records_said (lines_in (length x.out / 8) x.out) ]
 
 -- A call with a book's bytes: answers wanted, budget, bytes of answer buffer. Neither the workspace nor the buffer is zero before.
 unfoldable pub asked : List (List ℕ) → ℕ → ℕ → ℕ → Called

@@ -17,6 +17,7 @@ use answers::Answered;
 use machine::{Ending, Limit, Tally};
 use returning::Reached;
 use steps::{Regs, Stepped};
+use words::{Book, Words};
 
 // A turn of the run: it goes on, with the tally, the registers and the end of what is written; or it has ended.
 // The tally stands at the same place in both, as the units in `Stepped`.
@@ -77,8 +78,8 @@ fn step_taken(y: Tally, end: usize, s: Stepped) -> Turned
 
 // The list of goals is empty, and the budget has a unit left: an answer.
 fn answer(
-    book: &[u8],
-    ws: &mut [u32],
+    book: &Book,
+    ws: &mut Words,
     out: &mut [u8],
     r: Regs,
     y: Tally,
@@ -87,11 +88,11 @@ fn answer(
     wanted: u32,
     budget: u32,
 ) -> Turned
-    requires taken { Taken book.now unknowns wanted (length out.old) }
-    requires midway { (whole : Result) × Midway book.now unknowns wanted (length out.old) budget ws.old out.old r y end whole }
+    requires taken { Taken book.now.bytes.now unknowns wanted (length out.old) }
+    requires midway { (whole : Result) × Midway book.now.bytes.now unknowns wanted (length out.old) budget ws.old out.old r y end whole }
     requires solving_value { (r.solving ≡ true) × (r.cell ≡ 0) × (y.units < budget) }
-    ensures { (whole : Result) → Midway book.now unknowns wanted (length out.old) budget ws.old out.old r y end whole
-        → TurnGives book.now unknowns wanted (length out.old) budget ws.new out.new r y whole result }
+    ensures { (whole : Result) → Midway book.now.bytes.now unknowns wanted (length out.old) budget ws.old out.old r y end whole
+        → TurnGives book.now.bytes.now unknowns wanted (length out.old) budget ws.new out.new r y whole result }
 {
     seeking::forget(ws, r.made);
     let k = y.answers as u16;
@@ -118,13 +119,13 @@ fn answer_due(r: Regs) -> bool
 }
 
 // Goes back; or, with a branch in hand, takes its next goal, if the budget has a unit left.
-fn reach(book: &[u8], ws: &mut [u32], r: Regs, left: u32) -> Reached
-    requires accepted { Accepted book.now × AllIndexed book.now ws.old }
+fn reach(book: &Book, ws: &mut Words, r: Regs, left: u32) -> Reached
+    requires accepted { Accepted book.now.bytes.now × AllIndexed book.now.bytes.now ws.old }
     requires r_value { answer_due r ≡ false }
-    requires stands { (threads : List Thread) × Stands book.now ws.old r threads }
-    requires memo { Memo book.now ws.old r.programs left }
-    ensures reach_contract { ReachContract book.now ws.old ws.new r left result }
-    ensures memo_reached { MemoReached book.now ws.new left result }
+    requires stands { (threads : List Thread) × Stands book.now.bytes.now ws.old r threads }
+    requires memo { Memo book.now.bytes.now ws.old r.programs left }
+    ensures reach_contract { ReachContract book.now.bytes.now ws.old ws.new r left result }
+    ensures memo_reached { MemoReached book.now.bytes.now ws.new left result }
 {
     if !r.solving {
         return returning::back(book, ws, r, left);
@@ -138,8 +139,8 @@ fn reach(book: &[u8], ws: &mut [u32], r: Regs, left: u32) -> Reached
 // One turn: an answer; or a step, which goes back or takes the next goal, and tries the candidate to which that leads. A unit is done only if the budget
 // has one left.
 fn turn(
-    book: &[u8],
-    ws: &mut [u32],
+    book: &Book,
+    ws: &mut Words,
     out: &mut [u8],
     r: Regs,
     y: Tally,
@@ -148,10 +149,10 @@ fn turn(
     wanted: u32,
     budget: u32,
 ) -> Turned
-    requires taken { Taken book.now unknowns wanted (length out.old) }
-    requires midway { (whole : Result) × Midway book.now unknowns wanted (length out.old) budget ws.old out.old r y end whole }
-    ensures { (whole : Result) → Midway book.now unknowns wanted (length out.old) budget ws.old out.old r y end whole
-        → TurnGives book.now unknowns wanted (length out.old) budget ws.new out.new r y whole result }
+    requires taken { Taken book.now.bytes.now unknowns wanted (length out.old) }
+    requires midway { (whole : Result) × Midway book.now.bytes.now unknowns wanted (length out.old) budget ws.old out.old r y end whole }
+    ensures { (whole : Result) → Midway book.now.bytes.now unknowns wanted (length out.old) budget ws.old out.old r y end whole
+        → TurnGives book.now.bytes.now unknowns wanted (length out.old) budget ws.new out.new r y whole result }
 {
     let left = budget - y.units;
     if answer_due(r) {
@@ -167,8 +168,8 @@ fn turn(
 
 // The whole run from the registers of the start, with the answer buffer all zero and nothing counted yet.
 pub fn run(
-    book: &[u8],
-    ws: &mut [u32],
+    book: &Book,
+    ws: &mut Words,
     out: &mut [u8],
     start: Regs,
     unknowns: u32,
@@ -176,14 +177,14 @@ pub fn run(
     budget: u32,
     tally: Tally,
 ) -> Ran
-    requires taken { Taken book.now unknowns wanted (length out.old) }
-    requires stands { Stands book.now ws.old start ((start_of (question_of book.now)).thread ∷ []) }
-    requires all_indexed { AllIndexed book.now ws.old × Memo book.now ws.old start.programs budget }
+    requires taken { Taken book.now.bytes.now unknowns wanted (length out.old) }
+    requires stands { Stands book.now.bytes.now ws.old start ((start_of (question_of book.now.bytes.now)).thread ∷ []) }
+    requires all_indexed { AllIndexed book.now.bytes.now ws.old × Memo book.now.bytes.now ws.old start.programs budget }
     requires tally_value { tally ≡ no_counts }
     requires out_value { out.old ≡ replicate (length out.old) 0 }
-    ensures ending_value { (result.ending ≡ (run_of book.now budget wanted (length out.old)).ending)
-        × (result.tally ≡ (run_of book.now budget wanted (length out.old)).tally) }
-    ensures out_after { out.new ≡ filled_buffer (length out.old) (run_of book.now budget wanted (length out.old)).lines }
+    ensures ending_value { (result.ending ≡ (run_of book.now.bytes.now budget wanted (length out.old)).ending)
+        × (result.tally ≡ (run_of book.now.bytes.now budget wanted (length out.old)).tally) }
+    ensures out_after { out.new ≡ filled_buffer (length out.old) (run_of book.now.bytes.now budget wanted (length out.old)).lines }
 {
     let mut r = start;
     let mut y = tally;

@@ -10,29 +10,28 @@ ghost use Rattle.starting.specs.Start.{start_words, start_regs, Ready, After};
 use machine::Tally;
 use running::Ran;
 use steps::Regs;
+use words::{Book, Words};
 
 // Makes the index of the question's own clauses.
-fn index_own(book: &[u8], ws: &mut [u32])
-    requires accepted { Accepted book.now }
-    requires ws_len { length ws.old ≡ 16384 }
-    ensures { IndexedFrom book.now (own_run book.now).first (own_run book.now).count 0 ws.old ws.new }
+fn index_own(book: &Book, ws: &mut Words)
+    requires accepted { Accepted book.now.bytes.now }
+    ensures { IndexedFrom book.now.bytes.now (own_run book.now.bytes.now).first (own_run book.now.bytes.now).count 0 ws.old ws.new }
 {
-    let last = (book.len() / 16 - 1) as u32;
-    let first = words::field(book, last, 1);
-    let n = words::field(book, last, 2);
+    let last = book.last();
+    let first = book.field(last, 1);
+    let n = book.field(last, 2);
     index::make_index(book, ws, first, n);
 }
 
 // The question's goal is put into the first goal cell, and its unknowns are the variables that are made.
-fn set_up(book: &[u8], ws: &mut [u32]) -> Regs
-    requires accepted { Accepted book.now }
-    requires ws_len { length ws.old ≡ 16384 }
-    ensures value { result ≡ start_regs book.now }
-    ensures ws_after { ws.new ≡ start_words book.now ws.old }
+fn set_up(book: &Book, ws: &mut Words) -> Regs
+    requires accepted { Accepted book.now.bytes.now }
+    ensures value { result ≡ start_regs book.now.bytes.now }
+    ensures ws_after { ws.new ≡ start_words book.now.bytes.now ws.old }
 {
-    let last = (book.len() / 16 - 1) as u32;
-    let goal = words::field(book, last, 3);
-    let unknowns = words::field(book, last, 4);
+    let last = book.last();
+    let goal = book.field(last, 3);
+    let unknowns = book.field(last, 4);
     branch::put_cell(ws, 1, 4096 * (goal + 1), 0, 0);
     Regs {
         made: unknowns,
@@ -49,15 +48,15 @@ fn set_up(book: &[u8], ws: &mut [u32]) -> Regs
 
 // The whole run of an accepted book, counting on from the tally that is handed in.
 pub fn whole_run(
-    book: &[u8],
-    ws: &mut [u32],
+    book: &Book,
+    ws: &mut Words,
     out: &mut [u8],
     wanted: u32,
     budget: u32,
     tally: Tally,
 ) -> Ran
-    requires { Ready book.now ws.old out.old wanted budget tally }
-    ensures { After book.now ws.old out.old wanted budget tally result.ending result.tally ws.new out.new }
+    requires { Ready book.now.bytes.now ws.old out.old wanted budget tally }
+    ensures { After book.now.bytes.now ws.old out.old wanted budget tally result.ending result.tally ws.new out.new }
 {
     index_own(book, ws);
     supposed::index_supposed(book, ws);

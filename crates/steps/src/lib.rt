@@ -2,12 +2,12 @@
 #![tactic(auto)]
 
 ghost use Rattle.std.specs.Prelude.{◌≡◌, ◌+◌, ◌-◌};
-ghost use Rattle.words.specs.Readable.{Readable};
 ghost use Rattle.steps.specs.Enters.{EnterReady, Enters};
 ghost use Rattle.steps.specs.Search.{back_regs};
 
 use machine::Ending;
 use unifier::Unified;
+use words::{Book, Words};
 
 // The registers of the search: how much of each region is in use, and the branch in hand, if there is one.
 #[derive(Clone, Copy)]
@@ -36,23 +36,19 @@ pub fn to_back(r: Regs) -> Regs
     ensures { result ≡ back_regs r }
 {
     Regs {
-        made: r.made,
-        trail: r.trail,
-        cells: r.cells,
-        programs: r.programs,
-        alternatives: r.alternatives,
         cell: 0,
         taken: 0,
         supposed: false,
         solving: false,
+        ..r
     }
 }
 
 // Enters clause c, whose outer variables are from o on, for atom a at base e, and unifies.
 pub fn enter(
-    book: &[u8],
+    book: &Book,
     made: u32,
-    ws: &mut [u32],
+    ws: &mut Words,
     a: u32,
     e: u32,
     c: u32,
@@ -60,18 +56,17 @@ pub fn enter(
     trail: u32,
     left: u32,
 ) -> Unified
-    requires readable { Readable book.now }
-    requires enter_ready { EnterReady book.now made trail ws.old a e c o }
-    ensures { Enters book.now made trail ws.old ws.new a e c o left result }
+    requires enter_ready { EnterReady book.now.bytes.now made trail ws.old a e c o }
+    ensures { Enters book.now.bytes.now made trail ws.old ws.new a e c o left result }
 {
-    let n = words::field(book, c, 1);
-    let first = words::field(book, c, 2);
-    let t = words::field(book, c, 3);
-    let h = words::field(book, c, 4);
-    let m = words::field(book, a, 2);
+    let n = book.field(c, 1);
+    let first = book.field(c, 2);
+    let t = book.field(c, 3);
+    let h = book.field(c, 4);
+    let m = book.field(a, 2);
     words::clear_words(ws, made, n);
     branch::put_ties(book, ws, made, n, o, first, t);
-    let from = words::field(book, a, 3);
-    let other = words::field(book, h, 3);
+    let from = book.field(a, 3);
+    let other = book.field(h, 3);
     unifier::unify(book, made + n, ws, from, e, other, made, m, trail, left)
 }

@@ -2,7 +2,7 @@
 #![tactic(auto)]
 
 ghost use Rattle.std.specs.Prelude.{◌≡◌, true, ℕ, ◌+◌, ◌-◌, ◌*◌, ◌≤◌, ◌<◌, length, get_or, List};
-ghost use Rattle.words.specs.Readable.{Readable, HasArguments};
+ghost use Rattle.words.specs.Readable.{HasArguments};
 ghost use Rattle.book.specs.Records.{records};
 ghost use Rattle.book.proofs.Accepted.{Accepted, Formed};
 ghost use Rattle.branch.specs.State.{OwnReady, flag};
@@ -19,6 +19,7 @@ use machine::{Ending, Limit};
 use returning::Reached;
 use seeking::Candidate;
 use steps::Regs;
+use words::{Book, Words};
 
 // A goal cell: the word of the goal and base in it, the goal's record and base, its program, and the next cell.
 #[derive(Clone, Copy)]
@@ -31,8 +32,8 @@ pub struct Cell {
 }
 
 // Reads goal cell c.
-fn read_cell(ws: &[u32], c: u32) -> Cell
-    requires { (c < 1026) × (length ws.now ≡ 16384) × (4096 ≤ get_or ws.now (6144 + 2 * c) 0) }
+fn read_cell(ws: &Words, c: u32) -> Cell
+    requires { (c < 1026) × (4096 ≤ get_or ws.now (6144 + 2 * c) 0) }
     ensures { result ≡ cell_of ws.now c }
 {
     let at = (6144 + 2 * c) as usize;
@@ -66,15 +67,14 @@ fn in_hand(r: Regs, cell: u32, programs: u32, alternatives: u32, supposed: bool)
 }
 
 // Takes an and goal: the right goal, then before it the left one.
-fn take_and(book: &[u8], ws: &mut [u32], r: Regs, x: Cell) -> Regs
-    requires readable { Readable book.now }
-    requires goal_bound { x.goal < records book.now }
+fn take_and(book: &Book, ws: &mut Words, r: Regs, x: Cell) -> Regs
+    requires goal_bound { x.goal < records book.now.bytes.now }
     requires room { Room ws.old r x }
-    ensures ws_after { ws.new ≡ and_words book.now r x ws.old }
+    ensures ws_after { ws.new ≡ and_words book.now.bytes.now r x ws.old }
     ensures value { result ≡ and_regs r }
 {
-    let left = words::field(book, x.goal, 1);
-    let right = words::field(book, x.goal, 2);
+    let left = book.field(x.goal, 1);
+    let right = book.field(x.goal, 2);
     let cells = r.cells;
     branch::put_cell(ws, cells, 4096 * (right + 1) + x.base, x.program, x.next);
     branch::put_cell(ws, cells + 1, 4096 * (left + 1) + x.base, x.program, cells);
@@ -92,15 +92,14 @@ fn flag_of(supposed: bool) -> u32
 }
 
 // Takes an or goal: the right goal is put and kept as an alternative, then the left one is put.
-fn take_or(book: &[u8], ws: &mut [u32], r: Regs, x: Cell) -> Regs
-    requires readable { Readable book.now }
-    requires goal_bound { x.goal < records book.now }
+fn take_or(book: &Book, ws: &mut Words, r: Regs, x: Cell) -> Regs
+    requires goal_bound { x.goal < records book.now.bytes.now }
     requires room { Room ws.old r x }
-    ensures ws_after { ws.new ≡ or_words book.now r x ws.old }
+    ensures ws_after { ws.new ≡ or_words book.now.bytes.now r x ws.old }
     ensures value { result ≡ or_regs r }
 {
-    let left = words::field(book, x.goal, 1);
-    let right = words::field(book, x.goal, 2);
+    let left = book.field(x.goal, 1);
+    let right = book.field(x.goal, 2);
     let cells = r.cells;
     let kept = Back {
         made: r.made,
@@ -122,8 +121,8 @@ fn take_or(book: &[u8], ws: &mut [u32], r: Regs, x: Cell) -> Regs
 }
 
 // Writes program p: a suppose goal's word, the program before which its clauses are put, and the mark by which the memo knows it.
-fn put_program(ws: &mut [u32], p: u32, w: u32, q: u32, mark: u32)
-    requires { (p < 514) × (length ws.old ≡ 16384) }
+fn put_program(ws: &mut Words, p: u32, w: u32, q: u32, mark: u32)
+    requires { p < 514 }
     ensures { ws.new ≡ put_program p w q mark ws.old }
 {
     let at = (8200 + 3 * p) as usize;
@@ -134,14 +133,13 @@ fn put_program(ws: &mut [u32], p: u32, w: u32, q: u32, mark: u32)
 
 // Takes a suppose goal: its clauses are put before the program, and its goal has the new program.
 // The program's mark is the units that are left: putting a program takes a unit, so no two programs of a run have the same mark.
-fn take_suppose(book: &[u8], ws: &mut [u32], r: Regs, x: Cell, left: u32) -> Regs
-    requires readable { Readable book.now }
-    requires goal_bound { x.goal < records book.now }
+fn take_suppose(book: &Book, ws: &mut Words, r: Regs, x: Cell, left: u32) -> Regs
+    requires goal_bound { x.goal < records book.now.bytes.now }
     requires room { Room ws.old r x }
-    ensures ws_after { ws.new ≡ suppose_words book.now r x left ws.old }
+    ensures ws_after { ws.new ≡ suppose_words book.now.bytes.now r x left ws.old }
     ensures value { result ≡ suppose_regs r }
 {
-    let goal = words::field(book, x.goal, 3);
+    let goal = book.field(x.goal, 3);
     let cells = r.cells;
     let program = r.programs;
     put_program(ws, program, 4096 * (x.goal + 1) + x.base, x.program, left);
@@ -183,12 +181,11 @@ fn most_rules(taken: u32, left: u32) -> u32
 }
 
 // Follows plain rules from the goal of cell x, if its program is the question's own.
-fn plain_ahead(book: &[u8], ws: &[u32], r: Regs, x: Cell, left: u32) -> Followed
-    requires readable { Readable book.now }
-    requires formed { Formed book.now × OwnReady book.now 0 × AllIndexed book.now ws.now }
-    requires goal_bound { x.goal < records book.now }
+fn plain_ahead(book: &Book, ws: &Words, r: Regs, x: Cell, left: u32) -> Followed
+    requires formed { Formed book.now.bytes.now × OwnReady book.now.bytes.now 0 × AllIndexed book.now.bytes.now ws.now }
+    requires goal_bound { x.goal < records book.now.bytes.now }
     requires room { Room ws.now r x }
-    ensures { 0 < result.rules → PlainAhead book.now r x left result }
+    ensures { 0 < result.rules → PlainAhead book.now.bytes.now r x left result }
 {
     if 0 < x.program {
         return Followed {
@@ -200,7 +197,7 @@ fn plain_ahead(book: &[u8], ws: &[u32], r: Regs, x: Cell, left: u32) -> Followed
 }
 
 // Takes the goals of plain rules: the goal to which they lead is put in the place of the goal of cell x.
-fn take_plain(ws: &mut [u32], r: Regs, x: Cell, p: Followed) -> Regs
+fn take_plain(ws: &mut Words, r: Regs, x: Cell, p: Followed) -> Regs
     requires goal_bound { (p.goal < 4096) × (r.taken + p.rules ≤ 512) }
     requires room { Room ws.old r x }
     ensures ws_after { ws.new ≡ plain_words r x p ws.old }
@@ -222,18 +219,17 @@ fn take_plain(ws: &mut [u32], r: Regs, x: Cell, p: Followed) -> Regs
 }
 
 // Takes an atom: its first candidate is tried next; with none, go back.
-fn take_atom(book: &[u8], ws: &mut [u32], r: Regs, x: Cell) -> Reached
-    requires readable { Readable book.now }
-    requires formed { Formed book.now × OwnReady book.now 0 × AllIndexed book.now ws.old }
-    requires standing { Standing book.now ws.old r.made r.programs x.program 0 }
-    requires has_arguments { HasArguments book.now x.goal }
+fn take_atom(book: &Book, ws: &mut Words, r: Regs, x: Cell) -> Reached
+    requires formed { Formed book.now.bytes.now × OwnReady book.now.bytes.now 0 × AllIndexed book.now.bytes.now ws.old }
+    requires standing { Standing book.now.bytes.now ws.old r.made r.programs x.program 0 }
+    requires has_arguments { HasArguments book.now.bytes.now x.goal }
     requires room { Room ws.old r x }
-    requires by_index { (left : ℕ) × Memo book.now ws.old r.programs left }
-    ensures atom_taken { AtomTaken book.now ws.old r x result }
-    ensures memo_stays { MemoStays book.now r.programs ws.old ws.new }
+    requires by_index { (left : ℕ) × Memo book.now.bytes.now ws.old r.programs left }
+    ensures atom_taken { AtomTaken book.now.bytes.now ws.old r x result }
+    ensures memo_stays { MemoStays book.now.bytes.now r.programs ws.old ws.new }
 {
-    let f = words::field(book, x.goal, 1);
-    let m = words::field(book, x.goal, 2);
+    let f = book.field(x.goal, 1);
+    let m = book.field(x.goal, 2);
     match seeking::seek_first(book, r.made, ws, r.programs, x.program, f, m) {
         Candidate::At(q, i) => Reached::Clause(1, at_clause(r, x, q, i), r.alternatives),
         Candidate::Nothing => Reached::Onward(1, steps::to_back(r)),
@@ -241,20 +237,19 @@ fn take_atom(book: &[u8], ws: &mut [u32], r: Regs, x: Cell) -> Reached
 }
 
 // Takes the first goal of the branch in hand.
-pub fn take(book: &[u8], ws: &mut [u32], r: Regs, left: u32) -> Reached
-    requires readable { Readable book.now }
-    requires accepted { Accepted book.now × OwnReady book.now 0 × AllIndexed book.now ws.old }
+pub fn take(book: &Book, ws: &mut Words, r: Regs, left: u32) -> Reached
+    requires accepted { Accepted book.now.bytes.now × OwnReady book.now.bytes.now 0 × AllIndexed book.now.bytes.now ws.old }
     requires solving_value { (r.solving ≡ true) × (0 < r.cell) × (0 < left) }
-    requires stands { (threads : List Thread) × Stands book.now ws.old r threads }
-    requires memo { Memo book.now ws.old r.programs left }
-    ensures reach_contract { ReachContract book.now ws.old ws.new r left result }
-    ensures memo_reached { MemoReached book.now ws.new left result }
+    requires stands { (threads : List Thread) × Stands book.now.bytes.now ws.old r threads }
+    requires memo { Memo book.now.bytes.now ws.old r.programs left }
+    ensures reach_contract { ReachContract book.now.bytes.now ws.old ws.new r left result }
+    ensures memo_reached { MemoReached book.now.bytes.now ws.new left result }
 {
     if 512 <= r.taken {
         return Reached::Finished(Ending::Stopped(Limit::Goals), 0);
     }
     let x = read_cell(ws, r.cell);
-    let kind = words::field(book, x.goal, 0);
+    let kind = book.field(x.goal, 0);
     // Below 5 a goal is an atom. With `kind == 4` the compiler makes one switch of all kinds, and asks for an atom last.
     if kind < 5 {
         let p = plain_ahead(book, ws, r, x, left);

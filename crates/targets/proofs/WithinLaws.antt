@@ -1,20 +1,29 @@
--- A record that passed test 4 points at records that are there; and the two sorts of links, by what the code asks first.
-use mathlib.Core.Bool.{true, false}
+-- A record that passed test 4 points at records that are there: as what its kind, or the kind that is read off it, has; and a run, member by member.
+use mathlib.Core.Bool.{Bool, true, ◌&&◌}
 use mathlib.Core.List.{List}
-use mathlib.Core.Path.{◌≡◌}
-use Prim.Native.Nat.{ℕ, ◌+◌, ◌≤◌, ◌<◌}
+use mathlib.Core.Path.{◌≡◌, refl, ap, ◌∙◌}
+use mathlib.Core.Logic.{◌⊎◌, inl, inr}
+use Prim.Native.Nat.{ℕ, zero, suc, ◌+◌, ◌≤◌, ◌<◌}
+use native.Mathlib.Numerals.{add-one}
 use native.Mathlib.Omega.{arith}
-use lib.Dec.{eqb}
-use borrow.Author.Tests.{eq-eqb, ne_eqb}
-use Rattle.book.specs.Records.{at, field, records}
-use Rattle.book.specs.Kinds.{term_kind, and_kind, suppose_kind, clause_kind, question_kind, kind_at, is_term}
-use Rattle.book.specs.Fields.{fields_fit_as}
-use Rattle.book.specs.Targets.{argument_link, clause_link}
+use Rattle.std.specs.Prelude.{Ok}
+use denote.Param.Members.{Mut}
+use Rattle.std.specs.Fn.{Called}
+use Rattle.std.specs.Iterator.{ChecksAll}
+use Rattle.std.specs.List.{list_all, range_with_len}
+use Rattle.std.specs.declared.ops.Range.{Range}
+use Rattle.std.proofs.iter.Yields.{nat_range_steps}
+use Rattle.std.proofs.lemmas.Iterator.{YieldsList-from_range}
+use Rattle.std.proofs.lemmas.Iterator.Search.{all_from_yields_List}
+use Rattle.book.specs.declared.Kind as code
+use Rattle.book.specs.declared.Kind.TheVariants.{Term, Atom, And, Or, Suppose, Clause, Question}
+use Rattle.book.specs.KindRead.{kind_read}
+use Rattle.book.specs.Records.{at, records}
+use Rattle.book.specs.Kinds.{term_kind, and_kind, suppose_kind, clause_kind, question_kind, kind_of}
+use Rattle.book.specs.Fields.{fields_fit_as, fields_fit}
+use Rattle.book.specs.Targets.{each_of}
 use Rattle.records.proofs.BelowLaws.{term_below, and_below, suppose_below, question_below, clause_below}
-use Rattle.targets.specs.Within.{Linked, Readable}
-
-pub linked : (book : List ℕ) (e l : ℕ) → Readable book e → l < e → Linked book l
-linked book e l h p = let f = h.few in record { there = omega arith; target = h.targets l p }
+use Rattle.targets.specs.Within.{Readable, Within}
 
 module _ (book : List ℕ) (i : ℕ) (r : List ℕ) (h : Readable book i) where
   there : {p : ℕ} → p < i → p < records book
@@ -39,19 +48,35 @@ module _ (book : List ℕ) (i : ℕ) (r : List ℕ) (h : Readable book i) where
       → Readable book (at r 2 + at r 3) × (at r 4 < records book) × (at r 5 ≡ 1 → at r 6 < records book)
   clause_within e = let x = clause_below i r e in (run x.0, there x.1, λ g. there (x.2 g))
 
-module _ (book : List ℕ) (l : ℕ) where
-  pub argument_if : field book l 0 ≡ 3 → argument_link book l ≡ is_term (kind_at book (field book l 1))
-  unfolding argument_link
-  argument_if e = rw (argument_link, eq-eqb (field book l 0) 3 e)
+module _ (book r : List ℕ) (k : code.Kind) (e : kind_read (Ok k) ≡ kind_of (at r 0)) (w : Within book r) where
+  fits_read : fields_fit_as (kind_read (Ok k)) w.0 r ≡ true
+  unfolding fields_fit
+  fits_read = rw e w.2
 
-  pub argument_not : (field book l 0 ≡ 3 → ⊥) → argument_link book l ≡ false
-  unfolding argument_link
-  argument_not e = rw (argument_link, ne_eqb (field book l 0) 3 e)
+  pub term_there : (k ≡ Term) ⊎ (k ≡ Atom) → Readable book (at r 3 + at r 2)
+  unfolding fields_fit_as
+  term_there (inl q) = term_within book w.0 r w.1 (rw q at fits_read)
+  term_there (inr q) = term_within book w.0 r w.1 (rw q at fits_read)
 
-  pub clause_if : field book l 0 ≡ 3 → clause_link book l ≡ eqb (field book (field book l 1) 0) 8
-  unfolding clause_link
-  clause_if e = rw (clause_link, eq-eqb (field book l 0) 3 e)
+  pub and_there : (k ≡ And) ⊎ (k ≡ Or) → (at r 1 < records book) × (at r 2 < records book)
+  unfolding fields_fit_as
+  and_there (inl q) = and_within book w.0 r w.1 (rw q at fits_read)
+  and_there (inr q) = and_within book w.0 r w.1 (rw q at fits_read)
 
-  pub clause_not : (field book l 0 ≡ 3 → ⊥) → clause_link book l ≡ false
-  unfolding clause_link
-  clause_not e = rw (clause_link, ne_eqb (field book l 0) 3 e)
+  pub suppose_there : (k ≡ Suppose) ⊎ (k ≡ Question) → Readable book (at r 1 + at r 2) × (at r 3 < records book)
+  suppose_there (inl q) = suppose_within book w.0 r w.1 (rw q at fits_read)
+  suppose_there (inr q) = question_within book w.0 r w.1 (rw q at fits_read)
+
+  pub clause_there : k ≡ Clause → Readable book (at r 2 + at r 3) × (at r 4 < records book) × (at r 5 ≡ 1 → at r 6 < records book)
+  clause_there q = clause_within book w.0 r w.1 (rw q at fits_read)
+
+each_all : (ok : ℕ → Bool) (first n : ℕ) → list_all ok (range_with_len first n) ≡ each_of ok first n
+unfolding each_of
+each_all ok first zero = refl
+each_all ok first (suc n) = ap (λ b. ok first && b) (rw (add-one first) (each_all ok (suc first) n))
+
+-- what `all` answers over a run
+pub all_of_run : {F : Type 0} {g : Mut F (ℕ × Unit {0}) Bool} {f : F} {s u : Range ℕ} {r : Bool} (ok : ℕ → Bool) (first n : ℕ)
+    → s ≡ record { start = first; end = first + n } → ChecksAll nat_range_steps g s f r u
+    → ((x : ℕ) (b : Bool) (q : F) → Called g f (x, tt) b q → (q ≡ f) × (b ≡ ok x)) → r ≡ each_of ok first n
+all_of_run ok first n e ran by = all_from_yields_List ok _ _ _ ran (YieldsList-from_range first (first + n) n e (omega arith)) by ∙ each_all ok first n

@@ -1,12 +1,8 @@
 use mathlib.Core.Path.{◌≡◌}
-use Prim.Native.Nat.{◌-◌, ◌≤◌}
-use lib.ListN.{length}
+use Prim.Native.Nat.{◌-◌}
 use Rattle.words.specs.Frame.{undo}
 use Rattle.words.proofs.FrameLaws.{Small}
 use Rattle.branch.proofs.open_again.Given as goal
 
 abbrev pub invariant-loop-i : goal.invariant-loop-i
-invariant-loop-i l = (l.from ≤ l.i) × (l.i ≤ l.to) × (length l.ws ≡ 16384) × Small l.from (l.i - l.from) l.ws × (undo (l.i - l.from) l.from l.ws ≡ undo (l.to - l.from) l.from l.initial.ws)
-
-abbrev pub decreases-loop-i : goal.decreases-loop-i
-decreases-loop-i l = l.i
+invariant-loop-i l = Small l.from (l.i - l.from) l.ws × (undo (l.i - l.from) l.from l.ws ≡ undo (l.to - l.from) l.from l.initial.ws)

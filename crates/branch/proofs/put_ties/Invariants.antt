@@ -1,11 +1,7 @@
 use mathlib.Core.Path.{◌≡◌}
-use Prim.Native.Nat.{◌+◌, ◌-◌, ◌≤◌}
-use lib.ListN.{length}
+use Prim.Native.Nat.{◌+◌, ◌-◌}
 use Rattle.branch.specs.Entries.{put_ties}
 use Rattle.branch.proofs.put_ties.Given as goal
 
 abbrev pub invariant-loop-i : goal.invariant-loop-i
-invariant-loop-i l = (l.i ≤ l.t) × (length l.ws ≡ 16384) × (l.ws ≡ put_ties l.book l.made l.outer (l.first + l.i) (l.t - l.i) l.initial.ws)
-
-abbrev pub decreases-loop-i : goal.decreases-loop-i
-decreases-loop-i l = l.i
+invariant-loop-i l = l.ws ≡ put_ties l.book.bytes.now l.made l.outer (l.first + l.i) (l.t - l.i) l.initial.ws

@@ -4,7 +4,7 @@ use Rattle.index.proofs.HeadLaws.{OnList}
 use Rattle.index.proofs.head_node.Given as goal
 
 abbrev pub invariant-loop-z : goal.invariant-loop-z
-invariant-loop-z l = (i : ℕ) → i ≤ l.n → Listed l.book l.first l.n i l.ws → OnList l.book l.first l.n l.f l.m i l.z
+invariant-loop-z l = (i : ℕ) → i ≤ l.run.count → Listed l.book.bytes.now l.run.first l.run.count i l.ws → OnList l.book.bytes.now l.run.first l.run.count l.head.symbol l.head.count i l.z
 
 abbrev pub decreases-loop-z : goal.decreases-loop-z
-decreases-loop-z l = l.n - l.z
+decreases-loop-z l = l.run.count - l.z

@@ -6,7 +6,7 @@ pub forget-requires : goal.forget-requires
 forget-requires c = let p = c.requires in words_size p.midway.1.stands p.solving_value.0
 
 pub write_answer-requires : goal.write_answer-requires
-write_answer-requires c = let p = c.requires in let t = answer_ready _ _ _ _ _ _ _ _ _ _ _ p.taken p.midway.1 p.solving_value.0 _ c.forget.ensures in record { readable = t.0; slots = t.1.0; unknowns_le_made = t.1.1.0; no_numbers = t.1.1.1 }
+write_answer-requires c = let p = c.requires in let t = answer_ready _ _ _ _ _ _ _ _ _ _ _ p.taken p.midway.1 p.solving_value.0 _ c.forget.ensures in record { slots = t.1.0; unknowns_le_made = t.1.1.0; no_numbers = t.1.1.1 }
 
 pub returns-then-z-wanted : goal.returns-then-z-wanted
 returns-then-z-wanted c = let p = c.requires in let w = c.write_answer.ensures in λ whole M.

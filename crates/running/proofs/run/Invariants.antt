@@ -5,7 +5,7 @@ use Rattle.running.specs.Turns.{Midway, ahead}
 use Rattle.running.proofs.run.Given as goal
 
 abbrev pub invariant-loop-e : goal.invariant-loop-e
-invariant-loop-e l = (length l.ws ≡ length l.initial.ws) × (length l.out ≡ length l.initial.out) × Midway l.book l.unknowns l.wanted (length l.initial.out) l.budget l.ws l.out l.r l.y l.end (run_of l.book l.budget l.wanted (length l.initial.out))
+invariant-loop-e l = (length l.ws ≡ length l.initial.ws) × (length l.out ≡ length l.initial.out) × Midway l.book.bytes.now l.unknowns l.wanted (length l.initial.out) l.budget l.ws l.out l.r l.y l.end (run_of l.book.bytes.now l.budget l.wanted (length l.initial.out))
 
 abbrev pub decreases-loop-e : goal.decreases-loop-e
 decreases-loop-e l = ahead l.budget l.r l.y

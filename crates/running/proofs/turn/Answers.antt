@@ -17,7 +17,7 @@ pub reach-o-requires : goal.reach-o-requires
 reach-o-requires c = let p = c.requires in let M = p.midway.1 in record { accepted = (p.taken.accepted, M.indexed); r_value = sym c.answer_due.ensures ∙ c.if-answer_due.false; stands = (M.threads, M.stands); memo = M.memo }
 
 pub go_on-s-requires : goal.go_on-s-requires
-go_on-s-requires c = let p = c.requires in let A = p.taken.accepted in let M = p.midway.1 in let o = c.reach-o.ensures in record { readable = readable _ A; accepted = A; can_go_on = can_go_on (own_ready _ A) M.indexed (o.reach_contract M.threads M.stands); memo_reached = o.memo_reached }
+go_on-s-requires c = let p = c.requires in let A = p.taken.accepted in let M = p.midway.1 in let o = c.reach-o.ensures in record { accepted = A; can_go_on = can_go_on (own_ready _ A) M.indexed (o.reach_contract M.threads M.stands); memo_reached = o.memo_reached }
 
 pub step_taken-requires : goal.step_taken-requires
 step_taken-requires c = let p = c.requires in units_fit _ _ _ _ _ _ _ _ _ _ _ p.taken p.midway.1 _ _ _ (search rules) refl (step_whole c.reach-o.ensures.reach_contract c.go_on-s.ensures.goes_on)

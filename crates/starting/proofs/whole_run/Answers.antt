@@ -8,7 +8,7 @@ pub index_own-requires : goal.index_own-requires
 index_own-requires c = let p = c.requires in record { accepted = p.accepted; ws_len = p.size }
 
 pub index_supposed-requires : goal.index_supposed-requires
-index_supposed-requires c = let p = c.requires in record { readable = readable _ p.accepted; formed = p.accepted.formed; ws_len = c.index_own.ensures.below.size ∙ p.size }
+index_supposed-requires c = let p = c.requires in record { formed = p.accepted.formed; ws_len = c.index_own.ensures.below.size ∙ p.size }
 
 pub set_up-r-requires : goal.set_up-r-requires
 set_up-r-requires c = let p = c.requires in record { accepted = p.accepted; ws_len = rw c.index_supposed.ensures (supposed_length _ _ _) ∙ c.index_own.ensures.below.size ∙ p.size }

@@ -1,16 +1,20 @@
-use Rattle.book.specs.Targets.{targets_fit_as}
-use borrow.Author.Rules.{rules}
+use Rattle.std.proofs.Common.{◌≡◌, arith, rules, tests}
+use Rattle.std.proofs.lemmas.Bool.Decides.{nat_tests}
+use Rattle.book.specs.Records.{at}
+use Rattle.book.specs.Targets.{is_tie, each_of, targets_fit_as}
+use Rattle.targets.proofs.WithinLaws.{all_of_run}
 use Rattle.targets.proofs.clause_targets.Goals as goal
 
-pub each_of-requires : goal.each_of-requires
-each_of-requires c = c.requires.0
-
-pub number_at-requires : goal.number_at-requires
-number_at-requires c = (rw c.wide.ensures c.requires.1, search rules)
-
-pub body_target-requires : goal.body_target-requires
-body_target-requires c = c.requires.2
-
-pub returns : goal.returns
+pub returns-then-number_at : goal.returns-then-number_at
 unfolding targets_fit_as
-returns c = cc
+returns-then-number_at c =
+    let a : c.all.result ≡ each_of (is_tie c.args.book.now) (at c.args.r 2) (at c.args.r 3) =
+    all_of_run (is_tie c.args.book.now) _ _ c.run.ensures c.all.ensures.ran (λ x b q k. search (rules, tests)) in
+    grind (arith, nat_tests)
+
+pub returns-else-number_at : goal.returns-else-number_at
+unfolding targets_fit_as
+returns-else-number_at c =
+    let a : c.all.result ≡ each_of (is_tie c.args.book.now) (at c.args.r 2) (at c.args.r 3) =
+    all_of_run (is_tie c.args.book.now) _ _ c.run.ensures c.all.ensures.ran (λ x b q k. search (rules, tests)) in
+    grind (arith, nat_tests)

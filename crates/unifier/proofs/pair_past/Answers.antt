@@ -16,10 +16,10 @@ pub overflow_add-at : goal.overflow_add-at
 overflow_add-at c = let p = c.requires in omega (arith, deep _ _ p.slots.room _ _ p.paired p.count_nonzero)
 
 pub bounds-ws-at : goal.bounds-ws-at
-bounds-ws-at c = let p = c.requires in omega (arith, p.slots.size, deep _ _ p.slots.room _ _ p.paired p.count_nonzero)
+bounds-ws-at c = let p = c.requires in omega (arith, deep _ _ p.slots.room _ _ p.paired p.count_nonzero)
 
 pub bounds-ws-at-2 : goal.bounds-ws-at-2
-bounds-ws-at-2 c = let p = c.requires in omega (arith, p.slots.size, deep _ _ p.slots.room _ _ p.paired p.count_nonzero)
+bounds-ws-at-2 c = let p = c.requires in omega (arith, deep _ _ p.slots.room _ _ p.paired p.count_nonzero)
 
 pub overflow_sub-result-3 : goal.overflow_sub-result-3
 overflow_sub-result-3 c = let p = c.requires in pop_most _ _ p.slots.room _ _ p.paired p.count_nonzero (omega arith) _ _ refl refl

@@ -1,13 +1,13 @@
 use native.Mathlib.Omega.{arith}
 use mathlib.Core.List.{[]}
-use Rattle.unifier.proofs.TurnLaws.{turn_into, past_ready, turn_past, turn_apart, turn_full, turn_ready, looked_ready, looked_done, looked_failed, looked_stopped, ends_most}
+use Rattle.unifier.proofs.TurnLaws.{turn_into, past_ready, turn_past, turn_apart, turn_full, turn_ready, looked_ready, looked_done, looked_over, ends_most}
 use Rattle.unifier.proofs.turn.Goals as goal
 
 pub pair_past-requires : goal.pair_past-requires
 pair_past-requires c = let p = c.requires in let x = past_ready _ _ _ _ _ _ _ p.pairs p.count_nonzero.1 _ c.pair_step.ensures _ c.in-Past.is in record { slots = x.0; paired = x.1; count_nonzero = p.count_nonzero.0 }
 
 pub look_bind-u-requires : goal.look_bind-u-requires
-look_bind-u-requires c = let p = c.requires in let x = turn_ready _ _ _ _ _ _ _ p.pairs p.count_nonzero.1 _ c.pair_step.ensures _ _ c.in-Look.is in record { readable = p.readable; slots = (x.0.slots, x.0.fits); good_var = x.1; v_value = x.2 }
+look_bind-u-requires c = let p = c.requires in let x = turn_ready _ _ _ _ _ _ _ p.pairs p.count_nonzero.1 _ c.pair_step.ensures _ _ c.in-Look.is in record { slots = (x.0.slots, x.0.fits); good_var = x.1; v_value = x.2 }
 
 pub overflow_add-used : goal.overflow_add-used
 overflow_add-used c = let e = ends_most (c.look_bind-u.ensures.ends []) in omega (arith, c.ranges)
@@ -30,8 +30,5 @@ returns-in-TooMany c = let p = c.requires in turn_full _ _ _ _ _ _ _ p.pairs p.c
 pub returns-in-Done : goal.returns-in-Done
 returns-in-Done c = let p = c.requires in looked_done _ _ _ _ _ _ _ p.pairs p.count_nonzero.1 _ c.pair_step.ensures _ _ c.in-Look.is _ _ c.look_bind-u.ensures.ends c.look_bind-u.ensures.keeps c.in-Done.is _ c.pair_past-in-Done.ensures
 
-pub returns-in-Failed : goal.returns-in-Failed
-returns-in-Failed c = let p = c.requires in looked_failed _ _ _ _ _ _ _ p.pairs p.count_nonzero.1 _ c.pair_step.ensures _ _ c.in-Look.is _ _ c.look_bind-u.ensures.ends c.in-Failed.is
-
-pub returns-in-Stopped : goal.returns-in-Stopped
-returns-in-Stopped c = let p = c.requires in looked_stopped _ _ _ _ _ _ _ p.pairs p.count_nonzero.1 _ c.pair_step.ensures _ _ c.in-Look.is _ _ c.look_bind-u.ensures.ends _ c.in-Stopped.is
+pub returns-in_default : goal.returns-in_default
+returns-in_default c = let p = c.requires in looked_over _ _ _ _ _ _ _ p.pairs p.count_nonzero.1 _ c.pair_step.ensures _ _ c.in-Look.is _ _ c.look_bind-u.ensures.ends c.in_default.not-Done

@@ -1,78 +1,51 @@
 // What the program prints.
-use std::io;
+use std::fmt;
 
-pub(crate) fn say(rt: &impl Print, text: &str) -> io::Result<()> {
-    print!(rt; "{text}")
+// A case that is wrong: the reply, the reply wanted, and the first word and byte that are wrong.
+#[derive(Clone, Copy)]
+pub(crate) struct Wrong {
+    pub(crate) reply: [u32; 6],
+    pub(crate) want: [u32; 6],
+    pub(crate) word: usize,
+    pub(crate) byte: usize,
 }
 
-fn number(rt: &impl Print, n: u32) -> io::Result<()> {
-    print!(rt; "{n}")
-}
-
-pub(crate) fn place(rt: &impl Print, n: usize) -> io::Result<()> {
-    print!(rt; "{n}")
-}
-
-fn six(rt: &impl Print, r: [u32; 6]) -> io::Result<()> {
-    let mut i = 0;
-    while i < 6 {
-        say(rt, " ")?;
-        number(rt, r[i])?;
-        i += 1;
+impl fmt::Display for Wrong {
+    fn fmt<W: fmt::Write>(&self, f: &mut fmt::Formatter<W>) -> fmt::Result {
+        write!(f, "reply")?;
+        for number in self.reply {
+            write!(f, " {number}")?;
+        }
+        write!(f, ", wanted")?;
+        for number in self.want {
+            write!(f, " {number}")?;
+        }
+        let word = self.word;
+        let byte = self.byte;
+        write!(f, "; right up to word {word} and byte {byte}")
     }
-    Ok(())
 }
 
-// Case number `at` is wrong: the reply, the reply wanted, and the first word and byte that are wrong.
-pub(crate) fn detail(
-    rt: &impl Print,
-    at: usize,
-    reply: [u32; 6],
-    want: [u32; 6],
-    w: usize,
-    b: usize,
-) -> io::Result<()> {
-    say(rt, "case ")?;
-    place(rt, at)?;
-    say(rt, ": reply")?;
-    six(rt, reply)?;
-    say(rt, ", wanted")?;
-    six(rt, want)?;
-    say(rt, "; right up to word ")?;
-    place(rt, w)?;
-    say(rt, " and byte ")?;
-    place(rt, b)?;
-    say(rt, "\n")
+// How many cases there were, and how many of them were wrong.
+#[derive(Clone, Copy, Default)]
+pub(crate) struct Tally {
+    pub(crate) seen: u32,
+    pub(crate) wrong: u32,
 }
 
-pub(crate) fn counted(rt: &impl Print, seen: u32, wrong: u32) -> io::Result<()> {
-    say(rt, ": ")?;
-    number(rt, seen)?;
-    say(rt, " cases, ")?;
-    number(rt, wrong)?;
-    say(rt, " wrong\n")
-}
-
-// The line of a group that has cases.
-fn group_line(rt: &impl Print, g: usize, seen: u32, wrong: u32) -> io::Result<()> {
-    if seen == 0 {
-        return Ok(());
+impl Tally {
+    pub(crate) fn count(&mut self, outcome: Result<(), Wrong>) {
+        self.seen = self.seen.saturating_add(1);
+        if outcome.is_err() {
+            self.wrong = self.wrong.saturating_add(1);
+        }
     }
-    if g < 7 {
-        say(rt, "  ending ")?;
-        place(rt, g)?;
-    } else {
-        say(rt, "  refusal ")?;
-        place(rt, g - 6)?;
-    }
-    counted(rt, seen, wrong)
 }
 
-pub(crate) fn groups(rt: &impl Print, seen: [u32; 14], wrong: [u32; 14]) -> io::Result<()> {
-    let mut g = 0;
-    while g < 14 {
-        group_line(rt, g, seen[g], wrong[g])?;
-        g += 1;
+impl fmt::Display for Tally {
+    fn fmt<W: fmt::Write>(&self, f: &mut fmt::Formatter<W>) -> fmt::Result {
+        let seen = self.seen;
+        let wrong = self.wrong;
+        write!(f, "{seen} cases, {wrong} wrong")
     }
-    Ok(())
 }

@@ -7,7 +7,7 @@ use native.Mathlib.Omega.{arith}
 use borrow.Author.Tests.{eq-eqb, ne_eqb, lt-ltb, le-ltb}
 use native.Mathlib.Decide.{dec_lt}
 use lib.Dec.{eqb, ltb}
-use Rattle.std.specs.Prelude.{Some, None}
+use Rattle.std.specs.Prelude.{Option, Some, None, IfSome}
 use Rattle.std.specs.Bool.{then_some}
 use Rattle.std.proofs.lemmas.Option.{none-some, same_Some}
 use Rattle.book.specs.Records.{field, records}
@@ -73,6 +73,10 @@ found_none n j e = go (dec_lt j n)
     go : Dec (j < n) → n ≤ j
     go (yes l) = absurd (none-some j (e ∙ sym (found_yes n j l)))
     go (no l) = omega arith
+
+pub found_within : (n j k : ℕ) (o : Option ℕ) → o ≡ found_below n j → n ≤ k → IfSome o (λ x. x < k)
+found_within n j k None e h = tt
+found_within n j k (Some r) e h = let x = found_some n j r e in omega (arith, x.0, x.1)
 
 -- THE CODE'S TEST OF A HEAD: two numbers in one are compared
 pub heads_both : (book : List ℕ) (f m c h x : ℕ) → h ≡ field book c 4 → (x ≡ field book h 1 + 65536 * field book h 2) × (field book h 1 < 65536) → f < 65536

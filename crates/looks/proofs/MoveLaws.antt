@@ -3,14 +3,12 @@ use mathlib.Core.Path.{◌≡◌, refl, ◌∙◌}
 use mathlib.Core.List.{List}
 use Prim.Native.Nat.{ℕ, suc, ◌+◌, ◌-◌, ◌≤◌}
 use native.Mathlib.Omega.{arith}
-use Rattle.machine.specs.declared.Limit.{Limit}
-use Rattle.machine.specs.declared.Limit.TheVariants.{Budget}
 use Rattle.machine.specs.declared.Tally.{Tally}
 use Rattle.machine.specs.Machine.{Thread, only, advance}
 use Rattle.machine.specs.Run.{Request, State, next, counted, go_on, after, step, run}
 use Rattle.machine.specs.Answers.{Line}
 use Rattle.looks.specs.declared.How.{How}
-use Rattle.looks.specs.declared.How.TheVariants.{Done, Failed, Stopped as StoppedHow}
+use Rattle.looks.specs.declared.How.TheVariants.{Done}
 use Rattle.looks.specs.Moves.{Moves, Moves.still, Moves.more, Went, Went.done, Went.fails, Went.full, Went.spent}
 
 pub moves_trans : {t u w : Thread} {n m k : ℕ} → Moves t n u → Moves u m w → k ≡ n + m → Moves t k w
@@ -31,17 +29,11 @@ went_after {n = n} {j = j} p h (full q a l) e = full (moves_trans p q e) a (omeg
 went_after {n = n} {j = j} p h (spent q d) e = spent (moves_trans p q e) (omega arith)
 
 -- an ending that does not come to w says nothing of it
-pub went_failed : {t w w' : Thread} {left k : ℕ} {how : How} → Went t w left how k → how ≡ Failed → Went t w' left Failed k
-went_failed (done p l) z = let c : ◌≡◌ {A = ℕ} 0 1 = cc in absurd (omega arith)
-went_failed (fails p a e l) z = fails p a e l
-went_failed (full p a l) z = let c : ◌≡◌ {A = ℕ} 0 1 = cc in absurd (omega arith)
-went_failed (spent p e) z = let c : ◌≡◌ {A = ℕ} 0 1 = cc in absurd (omega arith)
-
-pub went_stopped : {t w w' : Thread} {left k : ℕ} {how : How} {m : Limit} → Went t w left how k → how ≡ StoppedHow m → Went t w' left (StoppedHow m) k
-went_stopped (done p l) z = let c : ◌≡◌ {A = ℕ} 0 1 = cc in absurd (omega arith)
-went_stopped (fails p a e l) z = let c : ◌≡◌ {A = ℕ} 0 1 = cc in absurd (omega arith)
-went_stopped {m = m} (full {m = x} p a l) z = let c : x ≡ m = cc in full p (rw c at a) l
-went_stopped {m = m} (spent p e) z = let c : Budget ≡ m = cc in rw (← c) (spent p e)
+pub went_else : {t w w' : Thread} {left k : ℕ} {how : How} → Went t w left how k → (how ≡ Done → ⊥) → Went t w' left how k
+went_else (done p l) z = absurd (z refl)
+went_else (fails p a e l) z = fails p a e l
+went_else (full p a l) z = full p a l
+went_else (spent p e) z = spent p e
 
 pub went_to : {t w w' : Thread} {left k : ℕ} {how : How} → Went t w left how k → how ≡ Done → w ≡ w' → Went t w' left Done k
 went_to (done p l) z e = rw e at (done p l)

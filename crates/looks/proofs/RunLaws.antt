@@ -89,9 +89,6 @@ arguments_run book R made r b h bb l = record {
 pub term_run : (book : List ℕ) → Readable book → (made r b : ℕ) → TermAt book made r b → GoodRun book made b (field book r 3) (field book r 2)
 term_run book R made r b g = arguments_run book R made r b (g.term.0, inl g.term.1) g.base (rw (term_app book R r b g.term) at g.below)
 
-pub run_same : {book : List ℕ} {r q first m : ℕ} → r ≡ q → HasRun book q first m → HasRun book r first m
-run_same e h = rw e h
-
 -- RUNS THAT WAIT
 pub waits_same : (book : List ℕ) (d : ℕ) (ws ws' : List ℕ) → ((k : ℕ) → k < d → get_or ws' (16128 + k) 0 ≡ get_or ws (16128 + k) 0) → waiting_of book ws' d ≡ waiting_of book ws d
 unfolding waiting_of

@@ -43,6 +43,10 @@ module _ {book : List ℕ} {made : ℕ} {ws : List ℕ} {t : Term} where
   known_term (is_a_term {r = i} {b = j} X) r b e = let x : i ≡ r = cc in let y : j ≡ b = cc in rw (← x, ← y) X
   known_term (is_open X) r b e = absurd_value (cc)
 
+-- the same record by another name
+pub reads_same : {book : List ℕ} {made : ℕ} {ws : List ℕ} {t : Term} {r q b : ℕ} → r ≡ q → Reads book made ws t r b → Reads book made ws t q b
+reads_same e h = rw (← e) h
+
 module _ (book : List ℕ) (R : Readable book) (made : ℕ) (ws : List ℕ) (S : Slots book made ws) (k b : ℕ) (L : LinkAt book made k b) (t : ℕ) (te : t ≡ field book k 1) where
   pub text_here : TextRec book t × Below made (term_of book t b)
   text_here = rw te (L.text, L.below)

@@ -10,6 +10,7 @@ ghost use Rattle.looks.specs.Runs.{past_of, Listed, Leaves, TermAt, HasRun, Look
 ghost use Rattle.looks.specs.Values.{LinkAt, ValueOf};
 ghost use Rattle.looks.specs.Steps.{LookStepped, LookWent};
 
+use book::Kind;
 use machine::Limit;
 use words::{Book, Words};
 
@@ -29,6 +30,7 @@ pub struct Looked {
 }
 
 // What a text stands for, read through: the open variable v - 1, as word v; or the term of a record at a base.
+// A Result is no plainer here: neither of the two is an error.
 #[derive(Clone, Copy)]
 pub enum Value {
     Open(u32),
@@ -42,7 +44,7 @@ pub fn value_of(book: &Book, made: u32, ws: &Words, k: u32, b: u32) -> Value
     ensures { ValueOf book.now.bytes.now made ws.now (term_of book.now.bytes.now (book_field book.now.bytes.now k 1) b) result }
 {
     let t = book.field(k, 1);
-    if book.field(t, 0) != 1 {
+    if !book.is(t, Kind::Variable) {
         return Value::At(t, b);
     }
     let o = book.field(t, 1);
@@ -92,9 +94,7 @@ fn look_past(book: &Book, made: u32, ws: &Words, s: ToLook) -> LookStep
         return LookStep::On(ToLook {
             first: s.first + 1,
             count: s.count - 1,
-            base: s.base,
-            depth: s.depth,
-            waiting: s.waiting,
+            ..s
         });
     }
     if s.depth == 0 {
@@ -104,39 +104,28 @@ fn look_past(book: &Book, made: u32, ws: &Words, s: ToLook) -> LookStep
     let count = x / 4096 % 16;
     LookStep::On(ToLook {
         first: x / 65536,
-        count: count,
+        count,
         base: x % 4096,
         depth: s.depth - 1,
         waiting: s.waiting - count,
     })
 }
 
-// The first term of the list is the only one of the run in hand, and is that of record r at base b, which has m arguments from `first`: they
-// take its place.
-fn look_last(
-    book: &Book,
-    made: u32,
-    ws: &Words,
-    s: ToLook,
-    r: u32,
-    b: u32,
-    first: u32,
-    m: u32,
-) -> LookStep
+// The first term of the list is the only one of the run in hand, and is that of the record of k at base b: the arguments of k take its place.
+fn look_last(book: &Book, made: u32, ws: &Words, s: ToLook, k: Kept, b: u32) -> LookStep
     requires slots { Slots book.now.bytes.now made ws.now }
     requires listed { Listed book.now.bytes.now made ws.now s × (s.count ≡ 1) }
-    requires term_at { TermAt book.now.bytes.now made r b × HasRun book.now.bytes.now r first m }
-    ensures { LookedInto book.now.bytes.now made ws.now ws.now s r b result }
+    requires term_at { TermAt book.now.bytes.now made k.rec b × HasRun book.now.bytes.now k.rec k.first k.count }
+    ensures { LookedInto book.now.bytes.now made ws.now ws.now s k.rec b result }
 {
-    if 256 < s.waiting + m {
+    if 256 < s.waiting + k.count {
         return LookStep::Full;
     }
     LookStep::On(ToLook {
-        first: first,
-        count: m,
+        first: k.first,
+        count: k.count,
         base: b,
-        depth: s.depth,
-        waiting: s.waiting,
+        ..s
     })
 }
 
@@ -152,18 +141,22 @@ fn look_into(book: &Book, made: u32, ws: &mut Words, s: ToLook, r: u32, b: u32) 
     if m == 0 {
         return look_past(book, made, ws, s);
     }
+    let first = book.field(r, 3);
     if s.count == 1 {
-        let first = book.field(r, 3);
-        return look_last(book, made, ws, s, r, b, first, m);
+        let k = Kept {
+            rec: r,
+            first,
+            count: m,
+        };
+        return look_last(book, made, ws, s, k, b);
     }
     let rest = s.waiting + (s.count - 1);
     if 256 < rest + m {
         return LookStep::Full;
     }
     ws[(16128 + s.depth) as usize] = 65536 * (s.first + 1) + (4096 * (s.count - 1) + s.base);
-    let first = book.field(r, 3);
     LookStep::On(ToLook {
-        first: first,
+        first,
         count: m,
         base: b,
         depth: s.depth + 1,
@@ -181,17 +174,15 @@ fn look_step(book: &Book, made: u32, ws: &mut Words, v: u32, k: Kept, s: ToLook)
 {
     let t = book.field(s.first, 1);
     let b = s.base;
-    if book.field(t, 0) != 1 {
+    if !book.is(t, Kind::Variable) {
         return look_into(book, made, ws, s, t, b);
     }
     let o = book.field(t, 1);
     let w = words::read_variable(book, made, ws, b + o);
     if 4096 <= w {
         let r = w / 4096 - 1;
-        if s.count == 1 {
-            if r == k.rec {
-                return look_last(book, made, ws, s, r, w % 4096, k.first, k.count);
-            }
+        if s.count == 1 && r == k.rec {
+            return look_last(book, made, ws, s, k, w % 4096);
         }
         return look_into(book, made, ws, s, r, w % 4096);
     }
@@ -226,39 +217,35 @@ pub fn look(book: &Book, made: u32, ws: &mut Words, v: u32, t: u32, left: u32) -
     let first = book.field(r, 3);
     let k = Kept {
         rec: r,
-        first: first,
+        first,
         count: m,
     };
     let mut s = ToLook {
-        first: first,
+        first,
         count: m,
         base: t % 4096,
         depth: 0,
         waiting: 0,
     };
-    let mut more = left - 1;
-    loop {
-        if more == 0 {
-            return Looked {
-                how: How::Stopped(Limit::Budget),
-                used: left,
-            };
-        }
+    for used in 1..left {
         match look_step(book, made, ws, v, k, s) {
+            LookStep::On(x) => s = x,
+            LookStep::Over => return Looked {
+                how: How::Done,
+                used: used + 1,
+            },
             LookStep::Found => return Looked {
                 how: How::Failed,
-                used: left - more + 1,
+                used: used + 1,
             },
             LookStep::Full => return Looked {
                 how: How::Stopped(Limit::Lists),
-                used: left - more,
+                used,
             },
-            LookStep::Over => return Looked {
-                how: How::Done,
-                used: left - more + 1,
-            },
-            LookStep::On(x) => s = x,
         }
-        more -= 1;
+    }
+    Looked {
+        how: How::Stopped(Limit::Budget),
+        used: left,
     }
 }

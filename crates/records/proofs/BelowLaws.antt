@@ -6,7 +6,7 @@ use Prim.Native.Nat.{ℕ, ◌+◌, ◌≤◌, ◌<◌}
 use lib.Dec.{leb}
 use Rattle.book.specs.Records.{at}
 use Rattle.book.specs.Kinds.{term_kind, link_kind, and_kind, suppose_kind, clause_kind, question_kind, kind_of}
-use Rattle.book.specs.Fields.{zero_from2, zero_from4, zero_from5, zero_from7, run_fits, body_fits, fields_fit_as, fields_fit}
+use Rattle.book.specs.Fields.{zero_from, run_fits, body_fits, fields_fit_as, fields_fit}
 use Rattle.book.proofs.Tests.{and_true, leb_says, ltb_says}
 
 run_below : (i first n : ℕ) → run_fits i first n ≡ true → first + n ≤ i
@@ -25,11 +25,11 @@ module _ (i : ℕ) (r : List ℕ) where
 
   pub term_below : fields_fit_as term_kind i r ≡ true → at r 3 + at r 2 ≤ i
   unfolding fields_fit_as
-  term_below e = let x = and_true (leb (at r 2) 8) _ e in let y = and_true _ (zero_from4 r) x.1 in run_below i (at r 3) (at r 2) y.0
+  term_below e = let x = and_true (leb (at r 2) 8) _ e in let y = and_true _ (zero_from 4 r) x.1 in run_below i (at r 3) (at r 2) y.0
 
   pub link_below : fields_fit_as link_kind i r ≡ true → at r 1 < i
   unfolding fields_fit_as
-  link_below e = ltb_says _ _ (and_true _ (zero_from2 r) e).0
+  link_below e = ltb_says _ _ (and_true _ (zero_from 2 r) e).0
 
   pub and_below : fields_fit_as and_kind i r ≡ true → (at r 1 < i) × (at r 2 < i)
   unfolding fields_fit_as
@@ -38,18 +38,18 @@ module _ (i : ℕ) (r : List ℕ) where
   pub suppose_below : fields_fit_as suppose_kind i r ≡ true → (at r 1 + at r 2 ≤ i) × (at r 3 < i)
   unfolding fields_fit_as
   suppose_below e =
-      let x = and_true (leb 1 (at r 2) && leb (at r 2) 64) _ e in let y = and_true _ _ x.1 in let z = and_true _ (zero_from4 r) y.1 in
+      let x = and_true (leb 1 (at r 2) && leb (at r 2) 64) _ e in let y = and_true _ _ x.1 in let z = and_true _ (zero_from 4 r) y.1 in
       (run_below i (at r 1) (at r 2) y.0, ltb_says _ _ z.0)
 
   pub question_below : fields_fit_as question_kind i r ≡ true → (at r 1 + at r 2 ≤ i) × (at r 3 < i)
   unfolding fields_fit_as
   question_below e =
-      let x = and_true (leb (at r 2) 1024) _ e in let y = and_true _ _ x.1 in let z = and_true _ (leb (at r 4) 64 && zero_from5 r) y.1 in
+      let x = and_true (leb (at r 2) 1024) _ e in let y = and_true _ _ x.1 in let z = and_true _ (leb (at r 4) 64 && zero_from 5 r) y.1 in
       (run_below i (at r 1) (at r 2) y.0, ltb_says _ _ z.0)
 
   pub clause_below : fields_fit_as clause_kind i r ≡ true → (at r 2 + at r 3 ≤ i) × (at r 4 < i) × (at r 5 ≡ 1 → at r 6 < i)
   unfolding fields_fit_as
   clause_below e =
       let x = and_true (leb (at r 1) 64) _ e in let y = and_true (leb (at r 3) 64) _ x.1 in let z = and_true _ _ y.1 in
-      let u = and_true _ _ z.1 in let v = and_true _ (zero_from7 r) u.1 in
+      let u = and_true _ _ z.1 in let v = and_true _ (zero_from 7 r) u.1 in
       (run_below i (at r 2) (at r 3) z.0, ltb_says _ _ u.0, body_below i (at r 5) (at r 6) v.0)

@@ -1,10 +1,12 @@
 -- What the code of the supposed runs' index writes, step by step, is what the definitions say.
-use mathlib.Core.Path.{◌≡◌, refl, sym, ◌∙◌, ap}
+use mathlib.Core.Path.{◌≡◌, refl, ◌∙◌, ap}
 use mathlib.Core.List.{List}
 use Prim.Native.Nat.{ℕ, zero, suc, ◌+◌, ◌-◌, ◌*◌, ◌/◌, ◌%◌, ◌^◌, ◌≤◌, ◌<◌}
 use native.Mathlib.Omega.{arith}
-use borrow.Author.Tests.{eq-eqb, ne_eqb}
-use lib.ListN.{length, get_or, set}
+use mathlib.Core.Bool.{true, false}
+use borrow.Author.Tests.{eqb-true}
+use lib.Dec.{eqb}
+use lib.ListN.{get_or, set}
 use Rattle.book.specs.Records.{field, records}
 use Rattle.book.proofs.Accepted.{Formed}
 use Rattle.words.specs.Readable.{Readable}
@@ -73,35 +75,23 @@ module _ (book : List ℕ) (s first n : ℕ) (ws₀ : List ℕ) where
       let y : n - suc (n - i) ≡ i - 1 = omega arith in
       rw (z, run_words, y) (q ∙ ap (enter_clause book s first n (i - 1)) e)
 
-  pub run_all : (i : ℕ) (ws : List ℕ) → i ≤ 0 → ws ≡ run_words book s first n (n - i) ws₀ → ws ≡ run_words book s first n n ws₀
-  run_all i ws h e = let z : n - i ≡ n = omega arith in rw z at e
-
--- ALL RUNS
-pub in_records : (book : List ℕ) (s : ℕ) → s < length book / 16 → s < records book
-unfolding records
-in_records book s h = h
-
--- what the code reads of suppose goal s
-module _ (book : List ℕ) (s k first n : ℕ) (pk : k ≡ field book s 0) (e : k ≡ 7) (pf : first ≡ field book s 1) (pn : n ≡ field book s 2) where
-  pub supposed_ready : Readable book → Formed book → s < length book / 16 → ClauseRun book first n × (0 < n) × (n ≤ 64) × (first + n ≤ 4096)
-  supposed_ready R F h = rw (pf, pn) (suppose_run book R F s (in_records book s h) (seven_kind book s (sym pk ∙ e)))
+-- ALL RUNS: what the code reads of suppose goal s
+module _ (book : List ℕ) (s first n : ℕ) (e : eqb (field book s 0) 7 ≡ true) (pf : first ≡ field book s 1) (pn : n ≡ field book s 2) where
+  pub supposed_ready : Readable book → Formed book → s < records book → ClauseRun book first n × (0 < n) × (n ≤ 64) × (first + n ≤ 4096)
+  supposed_ready R F h = rw (pf, pn) (suppose_run book R F s h (seven_kind book s (eqb-true _ _ e)))
 
   pub supposed_more : (ws₀ ws ws' : List ℕ) → ws ≡ supposed_words book s ws₀ → ws' ≡ run_words book s first n n ws → ws' ≡ supposed_words book (s + 1) ws₀
   unfolding supposed_words
   supposed_more ws₀ ws ws' p q =
       let z : s + 1 ≡ suc s = omega arith in
-      rw (z, supposed_words, eq-eqb (field book s 0) 7 (sym pk ∙ e), ← pf, ← pn, ← p) q
+      rw (z, supposed_words, e, ← pf, ← pn, ← p) q
 
 pub supposed_none : (book : List ℕ) (ws₀ : List ℕ) → ws₀ ≡ supposed_words book 0 ws₀
 unfolding supposed_words
 supposed_none book ws₀ = refl
 
-pub supposed_on : (book : List ℕ) (s k : ℕ) → k ≡ field book s 0 → (k ≡ 7 → ⊥) → (ws₀ ws : List ℕ) → ws ≡ supposed_words book s ws₀ → ws ≡ supposed_words book (s + 1) ws₀
+pub supposed_on : (book : List ℕ) (s : ℕ) → eqb (field book s 0) 7 ≡ false → (ws₀ ws : List ℕ) → ws ≡ supposed_words book s ws₀ → ws ≡ supposed_words book (s + 1) ws₀
 unfolding supposed_words
-supposed_on book s k pk e ws₀ ws p =
+supposed_on book s e ws₀ ws p =
     let z : s + 1 ≡ suc s = omega arith in
-    rw (z, supposed_words, ne_eqb (field book s 0) 7 (λ x. e (pk ∙ x))) p
-
-pub supposed_end : (book : List ℕ) (s : ℕ) (ws₀ ws : List ℕ) → s ≤ length book / 16 → length book / 16 ≤ s → ws ≡ supposed_words book s ws₀ → ws ≡ supposed_words book (records book) ws₀
-unfolding records
-supposed_end book s ws₀ ws h l p = let z : s ≡ length book / 16 = omega arith in rw z at p
+    rw (z, supposed_words, e) p

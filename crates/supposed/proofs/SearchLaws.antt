@@ -4,9 +4,10 @@ use mathlib.Core.Bool.{Bool, true, false}
 use mathlib.Core.List.{List}
 use Prim.Native.Nat.{ℕ, zero, suc, ◌+◌, ◌-◌, ◌≤◌, ◌<◌}
 use native.Mathlib.Omega.{arith}
+use Rattle.std.specs.Prelude.{None}
 use Rattle.book.specs.Records.{field, records}
 use Rattle.book.specs.Kinds.{kind_at, suppose_kind}
-use Rattle.index.specs.Runs.{head_matches, next_match, found_among}
+use Rattle.index.specs.Runs.{head_matches, next_match, found_below}
 use Rattle.index.specs.Index.{head_bucket, bucket_of, next_in, InBucket}
 use Rattle.supposed.specs.Supposed.{small_bucket, note_of, marked, marked_by, RunIndexed, SupposedIndexed}
 use Rattle.index.proofs.RunLaws.{next_none, next_on, found_no}
@@ -64,7 +65,7 @@ not_marked book ws f m s k I h e u = not_marked_by book ws f m s k I h e (marked
 
 -- so the first of them is none, as the code says it
 pub none_first : (book : List ℕ) (ws : List ℕ) (f m s : ℕ) → SupposedIndexed book ws → s < records book → kind_at book s ≡ suppose_kind → marked_by ws (head_bucket f m) s ≡ false
-    → 0 ≡ found_among (field book s 2) (next_match book f m (field book s 1) 0 (field book s 2))
+    → None ≡ found_below (field book s 2) (next_match book f m (field book s 1) 0 (field book s 2))
 none_first book ws f m s I h e u =
     let z : field book s 2 - 0 ≡ field book s 2 = omega arith in
     found_no _ _ (omega (arith, rw z at (not_marked_by book ws f m s 0 I h e u (omega arith))))

@@ -1,65 +1,31 @@
 // The program: a book on standard input, its answers on standard output. All that matters is in the library: this reads, calls once and prints.
 #![tactic(auto)]
 
-ghost use Rattle.std.specs.Prelude.{◌<◌};
-
+use reading::read_full;
 use std::io;
-use std::io::Read;
 
-fn wide(x: u8) -> u64
-    ensures { result < 256 }
-{
-    x as u64
-}
-
-// The u16 at byte k, low byte first.
-fn pair(out: &[u8; 4096], k: usize) -> u64 {
-    if k < 4095 {
-        wide(out[k]) + 256 * wide(out[k + 1])
-    } else {
-        0
-    }
-}
-
-// Writes a number and what follows it.
-fn number(rt: &impl Print, n: u64, after: &str) -> io::Result<()> {
-    print!(rt; "{n}{after}")
-}
-
-fn line(rt: &impl Print, a: u64, b: u64, c: u64, d: u64) -> io::Result<()> {
-    number(rt, a, " ")?;
-    number(rt, b, " ")?;
-    number(rt, c, " ")?;
-    number(rt, d, "\n")
-}
-
-// A line for each answer record, in order. A record's second number is never 0, and unused bytes are.
+// A line for each answer record, in order: four numbers of two bytes each, low byte first. A record's second number is never 0, and unused bytes are.
 fn records(rt: &impl Print, out: &[u8; 4096]) -> io::Result<()> {
-    let mut k = 0;
-    while k < 4096 {
-        let what = pair(out, k + 2);
+    let (records, _) = out.as_chunks::<8>();
+    for [a, b, c, d, e, f, g, h] in records {
+        let what = u16::from_le_bytes([*c, *d]);
         if what == 0 {
-            return Ok(());
+            break;
         }
-        line(rt, pair(out, k), what, pair(out, k + 4), pair(out, k + 6))?;
-        k += 8;
+        let answer = u16::from_le_bytes([*a, *b]);
+        let number = u16::from_le_bytes([*e, *f]);
+        let count = u16::from_le_bytes([*g, *h]);
+        println!(rt; "{answer} {what} {number} {count}")?;
     }
     Ok(())
 }
 
 fn show(rt: &impl Print, reply: [u32; 6], out: &[u8; 4096]) -> io::Result<()> {
-    if reply[0] != 0 {
-        print!(rt; "refused ")?;
-        number(rt, reply[0] as u64, " ")?;
-        return number(rt, reply[1] as u64, "\n");
+    let [test, record, ending, answers, assumed, units] = reply;
+    if test != 0 {
+        return println!(rt; "refused {test} {record}");
     }
-    line(
-        rt,
-        reply[2] as u64,
-        reply[3] as u64,
-        reply[4] as u64,
-        reply[5] as u64,
-    )?;
+    println!(rt; "{ending} {answers} {assumed} {units}")?;
     records(rt, out)
 }
 
@@ -78,28 +44,12 @@ fn answer(rt: &(impl Print + Eprint), book: &[u8]) {
     }
 }
 
-// Reads until the input ends, and answers; or until there is no room, when it is longer than any book. A read that fails is no end: nothing is answered then.
-fn serve(rt: &(impl Print + Eprint), input: &mut impl Read, room: &mut [u8]) {
-    let mut done = 0;
-    while done < room.len() {
-        match input.read(&mut room[done..]) {
-            Ok(0) => {
-                answer(rt, &room[..done]);
-                return;
-            }
-            Ok(n) => done += n,
-            Err(error) => {
-                fail(rt, "standard input", error);
-                return;
-            }
-        }
-    }
-    answer(rt, room);
-}
-
-// One byte more than the longest book: an input that fills it is too long, and is refused as such.
+// The room has one byte more than the longest book: an input that fills it is too long, and is refused as such. It is an array, since the programs take no memory
+// from a heap. A read that fails is no end: nothing is answered then.
 fn main(rt: HostRuntime) {
     let mut room = [0u8; 65537];
-    let mut input = rt.stdin();
-    serve(&rt, &mut input, &mut room);
+    match read_full(&mut rt.stdin(), &mut room) {
+        Ok(n) => answer(&rt, &room[..n]),
+        Err(error) => fail(&rt, "standard input", error),
+    }
 }

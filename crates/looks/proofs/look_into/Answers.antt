@@ -1,7 +1,6 @@
 use native.Mathlib.Omega.{arith}
 use Rattle.words.proofs.StackLaws.{keeps_refl}
 use Rattle.looks.proofs.RunLaws.{deep, into_none, into_over, into_push}
-use borrow.Author.Rules.{rules}
 use Rattle.looks.proofs.look_into.Goals as goal
 
 pub returns-then-m-eq0 : goal.returns-then-m-eq0
@@ -19,11 +18,8 @@ overflow_add-ws-4 c = let p = c.requires in omega (arith, deep _ _ p.slots.room 
 pub bounds-ws-s : goal.bounds-ws-s
 bounds-ws-s c = let p = c.requires in omega (arith, p.slots.size, deep _ _ p.slots.room _ _ p.listed)
 
-pub field-first-requires-2 : goal.field-first-requires-2
-field-first-requires-2 c = let p = c.requires in record { r_bound = p.term_at.term.0; k_bound = search rules }
-
 pub overflow_add-result : goal.overflow_add-result
 overflow_add-result c = let p = c.requires in omega (arith, deep _ _ p.slots.room _ _ p.listed)
 
 pub returns : goal.returns
-returns c = let p = c.requires in let t = into_push _ _ p.slots.room _ _ p.listed c.args.book.now.readable _ _ p.term_at _ _ (record { start = c.field-first-2.ensures.0; many = c.field-m.ensures.0; some = omega (arith, c.if-m-eq0.false) }) c.if-rest-m-gt256.false p.slots.size c.if-s-eq1.false in record { keeps = t.0; looked_into = t.1 }
+returns c = let p = c.requires in let t = into_push _ _ p.slots.room _ _ p.listed c.args.book.now.readable _ _ p.term_at _ _ (record { start = c.field-first.ensures.0; many = c.field-m.ensures.0; some = omega (arith, c.if-m-eq0.false) }) c.if-rest-m-gt256.false p.slots.size c.if-s-eq1.false in record { keeps = t.0; looked_into = t.1 }

@@ -4,4 +4,4 @@ use Rattle.pointing.proofs.bump_and.Goals as goal
 
 pub returns : goal.returns
 unfolding pointers_as
-returns c = marks_two _ _ _ _ _ _ _ c.wide.ensures c.bump.ensures c.wide-2.ensures c.bump-2.ensures
+returns c = marks_two _ _ _ _ _ _ _ c.from.ensures c.bump.ensures c.from-2.ensures c.bump-2.ensures

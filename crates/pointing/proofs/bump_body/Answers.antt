@@ -5,7 +5,7 @@ use Rattle.pointing.specs.Marks.{bump_all}
 use Rattle.pointing.proofs.bump_body.Goals as goal
 
 pub bump-requires : goal.bump-requires
-bump-requires c = let h = c.requires c.if-flag-eq1.true in let e = c.wide.ensures in omega arith
+bump-requires c = let h = c.requires c.if-flag-eq1.true in let e = c.from.ensures in omega arith
 
 pub returns-then-flag-eq1 : goal.returns-then-flag-eq1
 unfolding body_pointer bump_all

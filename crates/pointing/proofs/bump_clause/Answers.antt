@@ -17,4 +17,4 @@ pub returns : goal.returns
 unfolding pointers_as
 returns c =
     let t = c.args.r in
-    marks_run _ _ (members (at t 2) (at t 3)) (body_pointer (at t 5) (at t 6)) _ _ _ _ c.bump_run.ensures c.wide.ensures c.bump.ensures c.bump_body.ensures
+    marks_run _ _ (members (at t 2) (at t 3)) (body_pointer (at t 5) (at t 6)) _ _ _ _ c.bump_run.ensures c.from.ensures c.bump.ensures c.bump_body.ensures

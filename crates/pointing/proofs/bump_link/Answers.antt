@@ -4,4 +4,4 @@ use Rattle.pointing.proofs.bump_link.Goals as goal
 
 pub returns : goal.returns
 unfolding pointers_as
-returns c = marks_one _ _ _ _ c.wide.ensures c.bump.ensures
+returns c = marks_one _ _ _ _ c.from.ensures c.bump.ensures

@@ -1,75 +1,48 @@
-use Rattle.records.proofs.BelowLaws.{fits_as, term_below, link_below, and_below, suppose_below, clause_below, question_below}
-use Rattle.book.specs.Fields.{fields_fit_as}
 use native.Mathlib.Omega.{arith}
-use Rattle.book.specs.Kinds.{kind_of}
-use Rattle.book.specs.Pointing.{pointers, pointers_as}
-use Rattle.pointing.proofs.MarkLaws.{none_marks}
+use Rattle.pointing.specs.Marks.{bump_all}
+use Rattle.pointing.proofs.ReadLaws.{term_held, link_held, and_held, suppose_held, clause_held, term_points, link_points, and_points, suppose_points, clause_points, variable_points, none_points}
 use Rattle.pointing.proofs.bump_record.Goals as goal
 
+pub returns-in_default : goal.returns-in_default
+unfolding bump_all
+returns-in_default c = rw (none_points c.args.r c.in_default.ensures.0)
+
 pub bump_term-requires : goal.bump_term-requires
-unfolding kind_of fields_fit_as
-bump_term-requires c = let w = c.requires in let l = w.1 in let x = term_below w.0 c.args.r (fits_as w.0 c.args.r 2 c.in-2.is w.2) in omega arith
+bump_term-requires c = let w = c.requires in let l = w.1 in let x = term_held c.args.r _ c.in-Ok.ensures.0 w.0 w.2 c.in-Term.is in omega arith
 
 pub bump_link-requires : goal.bump_link-requires
-unfolding kind_of fields_fit_as
-bump_link-requires c = let w = c.requires in let l = w.1 in let x = link_below w.0 c.args.r (fits_as w.0 c.args.r 3 c.in-3.is w.2) in omega arith
-
-pub bump_term-requires-in-4 : goal.bump_term-requires-in-4
-unfolding kind_of fields_fit_as
-bump_term-requires-in-4 c = let w = c.requires in let l = w.1 in let x = term_below w.0 c.args.r (fits_as w.0 c.args.r 4 c.in-4.is w.2) in omega arith
+bump_link-requires c = let w = c.requires in let l = w.1 in let x = link_held c.args.r _ c.in-Ok.ensures.0 w.0 w.2 c.in-Link.is in omega arith
 
 pub bump_and-requires : goal.bump_and-requires
-unfolding kind_of fields_fit_as
-bump_and-requires c = let w = c.requires in let l = w.1 in let x = and_below w.0 c.args.r (fits_as w.0 c.args.r 5 c.in-5.is w.2) in let a = x.0 in let b = x.1 in (omega arith, omega arith)
-
-pub bump_and-requires-in-6 : goal.bump_and-requires-in-6
-unfolding kind_of fields_fit_as
-bump_and-requires-in-6 c = let w = c.requires in let l = w.1 in let x = and_below w.0 c.args.r (fits_as w.0 c.args.r 6 c.in-6.is w.2) in let a = x.0 in let b = x.1 in (omega arith, omega arith)
+bump_and-requires c =
+    let w = c.requires in let l = w.1 in let x = and_held c.args.r _ c.in-Ok.ensures.0 w.0 w.2 c.in-And.is in
+    let a = x.0 in let b = x.1 in (omega arith, omega arith)
 
 pub bump_suppose-requires : goal.bump_suppose-requires
-unfolding kind_of fields_fit_as
-bump_suppose-requires c = let w = c.requires in let l = w.1 in let x = suppose_below w.0 c.args.r (fits_as w.0 c.args.r 7 c.in-7.is w.2) in let a = x.0 in let b = x.1 in (omega arith, omega arith)
+bump_suppose-requires c =
+    let w = c.requires in let l = w.1 in let x = suppose_held c.args.r _ c.in-Ok.ensures.0 w.0 w.2 c.in-Suppose.is in
+    let a = x.0 in let b = x.1 in (omega arith, omega arith)
 
 pub bump_clause-requires : goal.bump_clause-requires
-unfolding kind_of fields_fit_as
-bump_clause-requires c = let w = c.requires in let l = w.1 in let x = clause_below w.0 c.args.r (fits_as w.0 c.args.r 8 c.in-8.is w.2) in let a = x.0 in let b = x.1 in (omega arith, omega arith, λ f. let d = x.2 f in omega arith)
+bump_clause-requires c =
+    let w = c.requires in let l = w.1 in let x = clause_held c.args.r _ c.in-Ok.ensures.0 w.0 w.2 c.in-Clause.is in
+    let a = x.0 in let b = x.1 in (omega arith, omega arith, λ f. let d = x.2 f in omega arith)
 
-pub bump_suppose-requires-in-10 : goal.bump_suppose-requires-in-10
-unfolding kind_of fields_fit_as
-bump_suppose-requires-in-10 c = let w = c.requires in let l = w.1 in let x = question_below w.0 c.args.r (fits_as w.0 c.args.r 10 c.in-10.is w.2) in let a = x.0 in let b = x.1 in (omega arith, omega arith)
+pub returns-in-Term : goal.returns-in-Term
+returns-in-Term c = rw (term_points c.args.r _ c.in-Ok.ensures.0 c.in-Term.is) c.bump_term.ensures
 
-pub returns-in-2 : goal.returns-in-2
-unfolding pointers kind_of pointers_as
-returns-in-2 c = rw c.in-2.is c.bump_term.ensures
+pub returns-in-Link : goal.returns-in-Link
+returns-in-Link c = rw (link_points c.args.r _ c.in-Ok.ensures.0 c.in-Link.is) c.bump_link.ensures
 
-pub returns-in-3 : goal.returns-in-3
-unfolding pointers kind_of pointers_as
-returns-in-3 c = rw c.in-3.is c.bump_link.ensures
+pub returns-in-And : goal.returns-in-And
+returns-in-And c = rw (and_points c.args.r _ c.in-Ok.ensures.0 c.in-And.is) c.bump_and.ensures
 
-pub returns-in-4 : goal.returns-in-4
-unfolding pointers kind_of pointers_as
-returns-in-4 c = rw c.in-4.is c.bump_term-in-4.ensures
+pub returns-in-Suppose : goal.returns-in-Suppose
+returns-in-Suppose c = rw (suppose_points c.args.r _ c.in-Ok.ensures.0 c.in-Suppose.is) c.bump_suppose.ensures
 
-pub returns-in-5 : goal.returns-in-5
-unfolding pointers kind_of pointers_as
-returns-in-5 c = rw c.in-5.is c.bump_and.ensures
+pub returns-in-Clause : goal.returns-in-Clause
+returns-in-Clause c = rw (clause_points c.args.r _ c.in-Ok.ensures.0 c.in-Clause.is) c.bump_clause.ensures
 
-pub returns-in-6 : goal.returns-in-6
-unfolding pointers kind_of pointers_as
-returns-in-6 c = rw c.in-6.is c.bump_and-in-6.ensures
-
-pub returns-in-7 : goal.returns-in-7
-unfolding pointers kind_of pointers_as
-returns-in-7 c = rw c.in-7.is c.bump_suppose.ensures
-
-pub returns-in-8 : goal.returns-in-8
-unfolding pointers kind_of pointers_as
-returns-in-8 c = rw c.in-8.is c.bump_clause.ensures
-
-pub returns-in-10 : goal.returns-in-10
-unfolding pointers kind_of pointers_as
-returns-in-10 c = rw c.in-10.is c.bump_suppose-in-10.ensures
-
-pub returns-in_default : goal.returns-in_default
-unfolding pointers
-returns-in_default c = none_marks _ _ _ c.in_default.in_default-own.rest
+pub returns-in-Variable : goal.returns-in-Variable
+unfolding bump_all
+returns-in-Variable c = rw (variable_points c.args.r _ c.in-Ok.ensures.0 c.in-Variable.is)

@@ -9,4 +9,4 @@ use Rattle.pointing.proofs.bump_suppose.Goals as goal
 pub returns : goal.returns
 unfolding pointers_as bump_all
 returns c =
-    marks_run _ _ (members (at c.args.r 1) (at c.args.r 2)) [] _ _ _ _ c.bump_run.ensures c.wide.ensures c.bump.ensures refl
+    marks_run _ _ (members (at c.args.r 1) (at c.args.r 2)) [] _ _ _ _ c.bump_run.ensures c.from.ensures c.bump.ensures refl

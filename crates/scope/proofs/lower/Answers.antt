@@ -1,18 +1,15 @@
-use mathlib.Core.Path.{sym}
+use mathlib.Core.Path.{◌≡◌, sym, ap, ◌∙◌}
 use Rattle.book.specs.Scan.{lower}
-use Rattle.book.proofs.ScanLaws.{lower_first, lower_second}
+use Rattle.scope.proofs.LowestLaws.{lower_min}
 use Rattle.scope.proofs.lower.Goals as goal
 
-pub returns-in-Fine : goal.returns-in-Fine
+pub returns-in-None-default : goal.returns-in-None-default
 unfolding lower
-returns-in-Fine c = rw c.in-Fine.is
+returns-in-None-default c = rw c.in-None-default.is-0
 
-pub returns-in-Fine-w : goal.returns-in-Fine-w
+pub returns-in_default-None : goal.returns-in_default-None
 unfolding lower
-returns-in-Fine-w c = rw (c.in-Refused.is, c.in-Fine-w.is)
+returns-in_default-None c = rw (c.in_default-None.is-0, c.in_default-None.is-1)
 
-pub returns-then-r-q : goal.returns-then-r-q
-returns-then-r-q c = rw (c.in-Refused.is, c.in-Refused-w.is) (sym (lower_first _ _ _ _ c.if-r-q.true))
-
-pub returns-else-r-q : goal.returns-else-r-q
-returns-else-r-q c = rw (c.in-Refused.is, c.in-Refused-w.is) (sym (lower_second _ _ _ _ c.if-r-q.false))
+pub returns-in-Some-Some : goal.returns-in-Some-Some
+returns-in-Some-Some c = let x = c.in-Some-Some in rw (x.is-0, x.is-1, c.min.ensures) (lower_min x.r x.q)

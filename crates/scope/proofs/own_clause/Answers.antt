@@ -3,6 +3,7 @@ use native.Mathlib.Omega.{arith}
 use Rattle.book.specs.Scan.{lower}
 use Rattle.scope.proofs.PartLaws.{own_clause_is}
 use Rattle.scope.proofs.ShapedLaws.{own_parts}
+use Rattle.scope.specs.Lowest.{verdict_of}
 use Rattle.scope.proofs.own_clause.Goals as goal
 
 pub clause_ties-ties-requires : goal.clause_ties-ties-requires
@@ -19,7 +20,9 @@ body_scope-body-requires c = let x = own_parts c.args.book.now c.requires.0 c.ar
 pub returns : goal.returns
 returns c =
     let x = own_parts c.args.book.now c.requires.0 c.args.r c.args.rec c.requires.1 c.requires.2 c.requires.3 in
-    let e : c.lower-3.result ≡ lower c.clause_ties-ties.result (lower c.fault-none.result (lower c.part_scope-head.result c.body_scope-body.result)) =
-    c.lower-3.ensures ∙ ap (lower c.clause_ties-ties.result) (c.lower-2.ensures ∙ ap (lower c.fault-none.result) c.lower.ensures) in
+    let t = verdict_of c.clause_ties-ties.result in
+    let f = verdict_of c.fault-none.result in
+    let e : verdict_of c.lower-3.result ≡ lower t (lower f (lower (verdict_of c.part_scope-head.result) (verdict_of c.body_scope-body.result))) =
+    c.lower-3.ensures ∙ ap (lower t) (c.lower-2.ensures ∙ ap (lower f) c.lower.ensures) in
     e ∙ own_clause_is c.args.book.now c.args.r c.args.rec _ _ _ _ c.requires.3 c.clause_ties-ties.ensures c.fault-none.ensures
     (c.part_scope-head.ensures c.args.r x.2) (c.body_scope-body.ensures c.args.r x.3)

@@ -6,11 +6,12 @@ use Rattle.book.specs.Records.{field}
 use Rattle.book.specs.Scan.{lower}
 use Rattle.book.specs.Scope.{own_clause_scope}
 use Rattle.scope.proofs.PartLaws.{links_end, links_step}
+use Rattle.scope.specs.Lowest.{verdict_of}
 use Rattle.scope.proofs.own_clauses.Goals as goal
 
 pub loop-l-init : goal.loop-l-init
 unfolding lower
-loop-l-init c = (search rules, search rules, let h : c.wide.result + c.wide-2.result - c.wide-l.result ≡ c.args.n = omega arith in rw (h, c.wide-l.ensures))
+loop-l-init c = search rules
 
 pub own_clause_at-requires : goal.own_clause_at-requires
 own_clause_at-requires c =
@@ -19,12 +20,9 @@ own_clause_at-requires c =
 
 pub loop-l-preserved : goal.loop-l-preserved
 loop-l-preserved c =
-    let w : c.lower-v.result ≡ lower c.loop-l.v (own_clause_scope c.args.book.now (field c.args.book.now c.loop-l.l 1)) =
-    c.lower-v.ensures ∙ ap (lower c.loop-l.v) (c.own_clause_at.ensures ∙ ap (own_clause_scope c.args.book.now) c.number_at.ensures) in (
-      search rules,
-      search rules,
-      rw w (sym (links_step c.args.book.now (own_clause_scope c.args.book.now) _ _ _ (omega arith))) ∙ c.loop-l.invariant.2,
-    )
+    let w : verdict_of c.lower-v.result ≡ lower (verdict_of c.loop-l.v) (own_clause_scope c.args.book.now (field c.args.book.now c.loop-l.l 1)) =
+    c.lower-v.ensures ∙ ap (lower (verdict_of c.loop-l.v)) (c.own_clause_at.ensures ∙ ap (own_clause_scope c.args.book.now) c.number_at.ensures) in
+    rw w (sym (links_step c.args.book.now (own_clause_scope c.args.book.now) _ _ _ c.loop-l-test.true)) ∙ c.loop-l.invariant
 
 pub returns : goal.returns
-returns c = sym (links_end c.args.book.now _ _ _ _ (omega arith)) ∙ c.loop-l.invariant.2
+returns c = sym (links_end c.args.book.now _ _ _ _ c.loop-l-test.false) ∙ c.loop-l.invariant

@@ -12,7 +12,7 @@ pub overflow_add-ws : goal.overflow_add-ws
 overflow_add-ws c = let a = c.args in
     let u = class_unit a.s in
     let e : get_or a.ws.now (4096 + a.b) 0 / 2 ^ (11 + a.s % 8) % 2 ≡ 0 = rw u at c.if-w-unit-eq0.true in
-    let f : get_or a.ws.now (4096 + a.b) 0 < 4294967296 = omega (arith, c.slice_known-1.given (4096 + a.b)) in
+    let f : get_or a.ws.now (4096 + a.b) 0 < 4294967296 = omega arith in
     omega (arith, u, (bit_put a.s _ e).3 f)
 
 pub returns-then-w-unit-eq0 : goal.returns-then-w-unit-eq0

@@ -9,19 +9,19 @@ fits : (w r v : ℕ) → w < 4294967296 → r < 4096 → v < 256 → NoteFits ((
 fits w r v a b d = note_fits _ _ a d (r / 1024) (omega arith)
 
 pub nonzero_div-old : goal.nonzero_div-old
-nonzero_div-old c = let w : get_or c.args.ws.now (12304 + c.args.r % 1024) 0 < 4294967296 = omega (arith, c.slice_known-1.given (12304 + c.args.r % 1024)) in omega (arith, (fits _ _ _ w c.requires.0 c.requires.1).0)
+nonzero_div-old c = let w : get_or c.args.ws.now (12304 + c.args.r % 1024) 0 < 4294967296 = omega arith in omega (arith, (fits _ _ _ w c.requires.0 c.requires.1).0)
 
 pub overflow_mul-ws : goal.overflow_mul-ws
-overflow_mul-ws c = let w : get_or c.args.ws.now (12304 + c.args.r % 1024) 0 < 4294967296 = omega (arith, c.slice_known-1.given (12304 + c.args.r % 1024)) in omega (arith, (fits _ _ _ w c.requires.0 c.requires.1).1, w)
+overflow_mul-ws c = let w : get_or c.args.ws.now (12304 + c.args.r % 1024) 0 < 4294967296 = omega arith in omega (arith, (fits _ _ _ w c.requires.0 c.requires.1).1, w)
 
 pub overflow_sub-ws : goal.overflow_sub-ws
-overflow_sub-ws c = let w : get_or c.args.ws.now (12304 + c.args.r % 1024) 0 < 4294967296 = omega (arith, c.slice_known-1.given (12304 + c.args.r % 1024)) in omega (arith, (fits _ _ _ w c.requires.0 c.requires.1).1)
+overflow_sub-ws c = let w : get_or c.args.ws.now (12304 + c.args.r % 1024) 0 < 4294967296 = omega arith in omega (arith, (fits _ _ _ w c.requires.0 c.requires.1).1)
 
 pub overflow_mul-ws-2 : goal.overflow_mul-ws-2
-overflow_mul-ws-2 c = let w : get_or c.args.ws.now (12304 + c.args.r % 1024) 0 < 4294967296 = omega (arith, c.slice_known-1.given (12304 + c.args.r % 1024)) in omega (arith, (fits _ _ _ w c.requires.0 c.requires.1).2)
+overflow_mul-ws-2 c = let w : get_or c.args.ws.now (12304 + c.args.r % 1024) 0 < 4294967296 = omega arith in omega (arith, (fits _ _ _ w c.requires.0 c.requires.1).2)
 
 pub overflow_add-ws : goal.overflow_add-ws
-overflow_add-ws c = let w : get_or c.args.ws.now (12304 + c.args.r % 1024) 0 < 4294967296 = omega (arith, c.slice_known-1.given (12304 + c.args.r % 1024)) in omega (arith, (fits _ _ _ w c.requires.0 c.requires.1).3)
+overflow_add-ws c = let w : get_or c.args.ws.now (12304 + c.args.r % 1024) 0 < 4294967296 = omega arith in omega (arith, (fits _ _ _ w c.requires.0 c.requires.1).3)
 
 pub returns : goal.returns
 returns c = note_written c.args.ws.now c.args.r c.args.v c.requires.0

@@ -1,5 +1,5 @@
 use native.Mathlib.Omega.{arith}
-use Rattle.unifier.proofs.TurnLaws.{bind_room, kept_after, kept_bound, look_done, look_failed, look_stopped}
+use Rattle.unifier.proofs.TurnLaws.{bind_room, kept_after, kept_bound, look_done, look_else}
 use Rattle.unifier.proofs.look_bind.Goals as goal
 
 pub bind-requires : goal.bind-requires
@@ -11,8 +11,5 @@ overflow_add-result c = let p = c.requires in let l = c.look-l.ensures in omega 
 pub returns-in-Done : goal.returns-in-Done
 returns-in-Done c = let p = c.requires in let l = c.look-l.ensures in record { keeps = kept_bound _ c.args.book.now.readable _ _ _ _ p.slots.0 p.slots.1 l.keeps _ _ _ p.good_var.0 p.good_var.1 p.v_value _ _ l.look_went _ c.bind.ensures; ends = λ ps. look_done _ c.args.book.now.readable _ _ _ _ p.slots.0 p.slots.1 l.keeps _ _ _ p.good_var.0 p.good_var.1 p.v_value _ _ l.look_went ps c.in-Done.is _ c.bind.ensures }
 
-pub returns-in-Failed : goal.returns-in-Failed
-returns-in-Failed c = let p = c.requires in let l = c.look-l.ensures in record { keeps = kept_after _ c.args.book.now.readable _ _ _ _ p.slots.0 p.slots.1 l.keeps _ _ _ p.good_var.0 p.good_var.1 p.v_value _ _ l.look_went; ends = λ ps. look_failed _ c.args.book.now.readable _ _ _ _ p.slots.0 p.slots.1 l.keeps _ _ _ p.good_var.0 p.good_var.1 p.v_value _ _ l.look_went ps c.in-Failed.is }
-
-pub returns-in-Stopped : goal.returns-in-Stopped
-returns-in-Stopped c = let p = c.requires in let l = c.look-l.ensures in record { keeps = kept_after _ c.args.book.now.readable _ _ _ _ p.slots.0 p.slots.1 l.keeps _ _ _ p.good_var.0 p.good_var.1 p.v_value _ _ l.look_went; ends = λ ps. look_stopped _ c.args.book.now.readable _ _ _ _ p.slots.0 p.slots.1 l.keeps _ _ _ p.good_var.0 p.good_var.1 p.v_value _ _ l.look_went ps _ c.in-Stopped.is }
+pub returns-in_default : goal.returns-in_default
+returns-in_default c = let p = c.requires in let l = c.look-l.ensures in record { keeps = kept_after _ c.args.book.now.readable _ _ _ _ p.slots.0 p.slots.1 l.keeps _ _ _ p.good_var.0 p.good_var.1 p.v_value _ _ l.look_went; ends = λ ps. look_else _ c.args.book.now.readable _ _ _ _ p.slots.0 p.slots.1 l.keeps _ _ _ p.good_var.0 p.good_var.1 p.v_value _ _ l.look_went ps c.in_default.not-Done }

@@ -1,76 +1,68 @@
-use lib.ListN.{length-set}
 use native.Mathlib.Omega.{arith}
 use mathlib.Core.Path.{refl}
 use Rattle.unifier.specs.PairRuns.{PairedInto.unpaired}
 use Rattle.unifier.proofs.PairPlaces.{both_same, both_apart, both_count, deep, into_none, into_over, into_hand, into_push}
-use borrow.Author.Rules.{rules}
 use Rattle.unifier.proofs.pair_into.Goals as goal
 
 pub returns-then-both-symbol_and_count : goal.returns-then-both-symbol_and_count
 returns-then-both-symbol_and_count c = unpaired refl (both_apart _ _ _ _ _ c.symbol_and_count-both.ensures c.symbol_and_count.ensures c.if-both-symbol_and_count.true)
 
 pub returns-then-m-eq0 : goal.returns-then-m-eq0
-returns-then-m-eq0 c = let p = c.requires in let q = c.requires in let B = both_same _ _ _ _ _ c.symbol_and_count-both.ensures c.symbol_and_count.ensures c.if-both-symbol_and_count.false in into_none _ _ p.slots.room _ _ q.paired q.count_nonzero c.args.book.now.readable _ _ _ _ _ q.term_at.0 q.term_at.1 B.0 B.1 _ (both_count _ _ _ _ _ c.symbol_and_count-both.ensures c.symbol_and_count.ensures) c.if-m-eq0.true
+returns-then-m-eq0 c = let p = c.requires in let B = both_same _ _ _ _ _ c.symbol_and_count-both.ensures c.symbol_and_count.ensures c.if-both-symbol_and_count.false in into_none _ _ p.slots.room _ _ p.paired p.count_nonzero c.args.book.now.readable _ _ _ _ _ p.term_at.0 p.term_at.1 B.0 B.1 _ (both_count _ _ _ _ _ c.symbol_and_count-both.ensures c.symbol_and_count.ensures) c.if-m-eq0.true
 
 pub returns-then-s-m-gt256 : goal.returns-then-s-m-gt256
-returns-then-s-m-gt256 c = let p = c.requires in let q = c.requires in let B = both_same _ _ _ _ _ c.symbol_and_count-both.ensures c.symbol_and_count.ensures c.if-both-symbol_and_count.false in into_over _ _ p.slots.room _ _ q.paired q.count_nonzero c.args.book.now.readable _ _ _ _ _ q.term_at.0 q.term_at.1 B.0 B.1 _ (both_count _ _ _ _ _ c.symbol_and_count-both.ensures c.symbol_and_count.ensures) (omega (arith, c.if-s-m-gt256.true, c.if-s-eq1.true))
+returns-then-s-m-gt256 c = let p = c.requires in let B = both_same _ _ _ _ _ c.symbol_and_count-both.ensures c.symbol_and_count.ensures c.if-both-symbol_and_count.false in into_over _ _ p.slots.room _ _ p.paired p.count_nonzero c.args.book.now.readable _ _ _ _ _ p.term_at.0 p.term_at.1 B.0 B.1 _ (both_count _ _ _ _ _ c.symbol_and_count-both.ensures c.symbol_and_count.ensures) (omega (arith, c.if-s-m-gt256.true, c.if-s-eq1.true))
 
 pub returns-then-s-eq1 : goal.returns-then-s-eq1
-returns-then-s-eq1 c = let p = c.requires in let q = c.requires in let B = both_same _ _ _ _ _ c.symbol_and_count-both.ensures c.symbol_and_count.ensures c.if-both-symbol_and_count.false in into_hand _ _ p.slots.room _ _ q.paired q.count_nonzero c.args.book.now.readable _ _ _ _ _ q.term_at.0 q.term_at.1 B.0 B.1 _ (both_count _ _ _ _ _ c.symbol_and_count-both.ensures c.symbol_and_count.ensures) c.if-m-eq0.false (omega (arith, c.if-s-m-gt256.false, c.if-s-eq1.true)) _ _ c.field-first.ensures.0 c.field-other.ensures.0 c.if-s-eq1.true
+returns-then-s-eq1 c = let p = c.requires in let B = both_same _ _ _ _ _ c.symbol_and_count-both.ensures c.symbol_and_count.ensures c.if-both-symbol_and_count.false in into_hand _ _ p.slots.room _ _ p.paired p.count_nonzero c.args.book.now.readable _ _ _ _ _ p.term_at.0 p.term_at.1 B.0 B.1 _ (both_count _ _ _ _ _ c.symbol_and_count-both.ensures c.symbol_and_count.ensures) c.if-m-eq0.false (omega (arith, c.if-s-m-gt256.false, c.if-s-eq1.true)) _ _ c.field-first.ensures.0 c.field-other.ensures.0 c.if-s-eq1.true
 
 pub returns-then-later-m-gt256 : goal.returns-then-later-m-gt256
-returns-then-later-m-gt256 c = let p = c.requires in let q = c.requires in let B = both_same _ _ _ _ _ c.symbol_and_count-both.ensures c.symbol_and_count.ensures c.if-both-symbol_and_count.false in into_over _ _ p.slots.room _ _ q.paired q.count_nonzero c.args.book.now.readable _ _ _ _ _ q.term_at.0 q.term_at.1 B.0 B.1 _ (both_count _ _ _ _ _ c.symbol_and_count-both.ensures c.symbol_and_count.ensures) (omega (arith, c.if-later-m-gt256.true))
+returns-then-later-m-gt256 c = let p = c.requires in let B = both_same _ _ _ _ _ c.symbol_and_count-both.ensures c.symbol_and_count.ensures c.if-both-symbol_and_count.false in into_over _ _ p.slots.room _ _ p.paired p.count_nonzero c.args.book.now.readable _ _ _ _ _ p.term_at.0 p.term_at.1 B.0 B.1 _ (both_count _ _ _ _ _ c.symbol_and_count-both.ensures c.symbol_and_count.ensures) (omega (arith, c.if-later-m-gt256.true))
 
 pub overflow_mul-at : goal.overflow_mul-at
-overflow_mul-at c = let p = c.requires in let q = c.requires in omega (arith, deep _ _ p.slots.room _ _ q.paired q.count_nonzero)
+overflow_mul-at c = let p = c.requires in omega (arith, deep _ _ p.slots.room _ _ p.paired p.count_nonzero)
 
 pub overflow_add-at : goal.overflow_add-at
-overflow_add-at c = let p = c.requires in let q = c.requires in omega (arith, deep _ _ p.slots.room _ _ q.paired q.count_nonzero)
+overflow_add-at c = let p = c.requires in omega (arith, deep _ _ p.slots.room _ _ p.paired p.count_nonzero)
 
 pub overflow_add-ws : goal.overflow_add-ws
-overflow_add-ws c = let p = c.requires in let q = c.requires in omega (arith, q.paired.left.low, q.paired.left.base, q.paired.left.most, q.count_nonzero)
+overflow_add-ws c = let p = c.requires in omega (arith, p.paired.left.low, p.paired.left.base, p.paired.left.most, p.count_nonzero)
 
 pub overflow_mul-ws : goal.overflow_mul-ws
-overflow_mul-ws c = let p = c.requires in let q = c.requires in omega (arith, q.paired.left.low, q.paired.left.base, q.paired.left.most, q.count_nonzero)
+overflow_mul-ws c = let p = c.requires in omega (arith, p.paired.left.low, p.paired.left.base, p.paired.left.most, p.count_nonzero)
 
 pub overflow_sub-ws : goal.overflow_sub-ws
-overflow_sub-ws c = let p = c.requires in let q = c.requires in omega (arith, q.paired.left.low, q.paired.left.base, q.paired.left.most, q.count_nonzero)
+overflow_sub-ws c = let p = c.requires in omega (arith, p.paired.left.low, p.paired.left.base, p.paired.left.most, p.count_nonzero)
 
 pub overflow_add-ws-2 : goal.overflow_add-ws-2
-overflow_add-ws-2 c = let p = c.requires in let q = c.requires in omega (arith, q.paired.left.low, q.paired.left.base, q.paired.left.most, q.count_nonzero)
+overflow_add-ws-2 c = let p = c.requires in omega (arith, p.paired.left.low, p.paired.left.base, p.paired.left.most, p.count_nonzero)
 
 pub overflow_add-ws-3 : goal.overflow_add-ws-3
-overflow_add-ws-3 c = let p = c.requires in let q = c.requires in omega (arith, q.paired.left.low, q.paired.left.base, q.paired.left.most, q.count_nonzero)
+overflow_add-ws-3 c = let p = c.requires in omega (arith, p.paired.left.low, p.paired.left.base, p.paired.left.most, p.count_nonzero)
 
 pub bounds-ws-at : goal.bounds-ws-at
-bounds-ws-at c = let p = c.requires in let q = c.requires in omega (arith, p.slots.size, deep _ _ p.slots.room _ _ q.paired q.count_nonzero)
+bounds-ws-at c = let p = c.requires in omega (arith, deep _ _ p.slots.room _ _ p.paired p.count_nonzero)
 
 pub overflow_add-ws-4 : goal.overflow_add-ws-4
-overflow_add-ws-4 c = let p = c.requires in let q = c.requires in omega (arith, q.paired.right.low, q.paired.right.base, q.paired.right.most, q.count_nonzero)
+overflow_add-ws-4 c = let p = c.requires in omega (arith, p.paired.right.low, p.paired.right.base, p.paired.right.most, p.count_nonzero)
 
 pub overflow_mul-ws-3 : goal.overflow_mul-ws-3
-overflow_mul-ws-3 c = let p = c.requires in let q = c.requires in omega (arith, q.paired.right.low, q.paired.right.base, q.paired.right.most, q.count_nonzero)
+overflow_mul-ws-3 c = let p = c.requires in omega (arith, p.paired.right.low, p.paired.right.base, p.paired.right.most, p.count_nonzero)
 
 pub overflow_sub-ws-2 : goal.overflow_sub-ws-2
-overflow_sub-ws-2 c = let p = c.requires in let q = c.requires in omega (arith, q.paired.right.low, q.paired.right.base, q.paired.right.most, q.count_nonzero)
+overflow_sub-ws-2 c = let p = c.requires in omega (arith, p.paired.right.low, p.paired.right.base, p.paired.right.most, p.count_nonzero)
 
 pub overflow_add-ws-5 : goal.overflow_add-ws-5
-overflow_add-ws-5 c = let p = c.requires in let q = c.requires in omega (arith, q.paired.right.low, q.paired.right.base, q.paired.right.most, q.count_nonzero)
+overflow_add-ws-5 c = let p = c.requires in omega (arith, p.paired.right.low, p.paired.right.base, p.paired.right.most, p.count_nonzero)
 
 pub overflow_add-ws-6 : goal.overflow_add-ws-6
-overflow_add-ws-6 c = let p = c.requires in let q = c.requires in omega (arith, q.paired.right.low, q.paired.right.base, q.paired.right.most, q.count_nonzero)
+overflow_add-ws-6 c = let p = c.requires in omega (arith, p.paired.right.low, p.paired.right.base, p.paired.right.most, p.count_nonzero)
 
 pub bounds-ws-at-2 : goal.bounds-ws-at-2
-bounds-ws-at-2 c = let p = c.requires in let q = c.requires in simp length-set (omega (arith, p.slots.size, deep _ _ p.slots.room _ _ q.paired q.count_nonzero))
-
-pub field-first-requires-2 : goal.field-first-requires-2
-field-first-requires-2 c = let p = c.requires in let q = c.requires in record { r_bound = q.term_at.0.term.0; k_bound = search rules }
-
-pub field-other-requires-2 : goal.field-other-requires-2
-field-other-requires-2 c = let p = c.requires in let q = c.requires in record { r_bound = q.term_at.1.term.0; k_bound = search rules }
+bounds-ws-at-2 c = let p = c.requires in omega (arith, deep _ _ p.slots.room _ _ p.paired p.count_nonzero)
 
 pub overflow_add-result : goal.overflow_add-result
-overflow_add-result c = let p = c.requires in let q = c.requires in omega (arith, deep _ _ p.slots.room _ _ q.paired q.count_nonzero)
+overflow_add-result c = let p = c.requires in omega (arith, deep _ _ p.slots.room _ _ p.paired p.count_nonzero)
 
 pub returns : goal.returns
-returns c = let p = c.requires in let q = c.requires in let B = both_same _ _ _ _ _ c.symbol_and_count-both.ensures c.symbol_and_count.ensures c.if-both-symbol_and_count.false in into_push _ _ p.slots.room _ _ q.paired q.count_nonzero c.args.book.now.readable _ _ _ _ _ q.term_at.0 q.term_at.1 B.0 B.1 _ (both_count _ _ _ _ _ c.symbol_and_count-both.ensures c.symbol_and_count.ensures) c.if-m-eq0.false c.if-later-m-gt256.false _ _ c.field-first-2.ensures.0 c.field-other-2.ensures.0 p.slots.size c.if-s-eq1.false
+returns c = let p = c.requires in let B = both_same _ _ _ _ _ c.symbol_and_count-both.ensures c.symbol_and_count.ensures c.if-both-symbol_and_count.false in into_push _ _ p.slots.room _ _ p.paired p.count_nonzero c.args.book.now.readable _ _ _ _ _ p.term_at.0 p.term_at.1 B.0 B.1 _ (both_count _ _ _ _ _ c.symbol_and_count-both.ensures c.symbol_and_count.ensures) c.if-m-eq0.false c.if-later-m-gt256.false _ _ c.field-first.ensures.0 c.field-other.ensures.0 p.slots.size c.if-s-eq1.false

@@ -1,6 +1,6 @@
 use native.Mathlib.Omega.{arith}
 use mathlib.Core.List.{[]}
-use Rattle.unifier.proofs.TurnLaws.{turn_into, past_ready, turn_past, turn_apart, turn_full, turn_ready, looked_ready, looked_done, looked_failed, looked_stopped, ends_most}
+use Rattle.unifier.proofs.TurnLaws.{turn_into, past_ready, turn_past, turn_apart, turn_full, turn_ready, looked_ready, looked_done, looked_over, ends_most}
 use Rattle.unifier.proofs.turn.Goals as goal
 
 pub pair_past-requires : goal.pair_past-requires
@@ -30,8 +30,5 @@ returns-in-TooMany c = let p = c.requires in turn_full _ _ _ _ _ _ _ p.pairs p.c
 pub returns-in-Done : goal.returns-in-Done
 returns-in-Done c = let p = c.requires in looked_done _ _ _ _ _ _ _ p.pairs p.count_nonzero.1 _ c.pair_step.ensures _ _ c.in-Look.is _ _ c.look_bind-u.ensures.ends c.look_bind-u.ensures.keeps c.in-Done.is _ c.pair_past-in-Done.ensures
 
-pub returns-in-Failed : goal.returns-in-Failed
-returns-in-Failed c = let p = c.requires in looked_failed _ _ _ _ _ _ _ p.pairs p.count_nonzero.1 _ c.pair_step.ensures _ _ c.in-Look.is _ _ c.look_bind-u.ensures.ends c.in-Failed.is
-
-pub returns-in-Stopped : goal.returns-in-Stopped
-returns-in-Stopped c = let p = c.requires in looked_stopped _ _ _ _ _ _ _ p.pairs p.count_nonzero.1 _ c.pair_step.ensures _ _ c.in-Look.is _ _ c.look_bind-u.ensures.ends _ c.in-Stopped.is
+pub returns-in_default : goal.returns-in_default
+returns-in_default c = let p = c.requires in looked_over _ _ _ _ _ _ _ p.pairs p.count_nonzero.1 _ c.pair_step.ensures _ _ c.in-Look.is _ _ c.look_bind-u.ensures.ends c.in_default.not-Done

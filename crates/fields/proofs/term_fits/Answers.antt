@@ -1,7 +1,0 @@
-use Rattle.book.specs.Fields.{fields_fit_as}
-use mathlib.Core.Path.{refl}
-use Rattle.fields.proofs.term_fits.Goals as goal
-
-pub returns : goal.returns
-unfolding fields_fit_as
-returns c = rw (c.run_fits.ensures, c.zero_from_4.ensures) refl

@@ -230,16 +230,20 @@ pub fn take(book: &Book, ws: &mut Words, r: Regs, left: u32) -> Reached
         return Reached::Finished(Ending::Stopped(Limit::Goals), 0);
     }
     let x = read_cell(ws, r.cell);
-    match book.kind(x.goal) {
-        Ok(Kind::And) => Reached::Onward(1, take_and(book, ws, r, x)),
-        Ok(Kind::Or) => Reached::Onward(1, take_or(book, ws, r, x)),
-        Ok(Kind::Suppose) => Reached::Onward(1, take_suppose(book, ws, r, x, left)),
-        _ => {
-            let p = plain_ahead(book, ws, r, x, left);
-            if 0 < p.rules {
-                return Reached::Onward(2 * p.rules, take_plain(ws, r, x, p));
-            }
-            take_atom(book, ws, r, x)
+    let kind = book.field(x.goal, 0);
+    // Below an and-goal's kind a goal is an atom. With a match, or `==`, the compiler makes one switch of all kinds, and asks for an atom last.
+    if kind < Kind::And as u32 {
+        let p = plain_ahead(book, ws, r, x, left);
+        if 0 < p.rules {
+            return Reached::Onward(2 * p.rules, take_plain(ws, r, x, p));
         }
+        return take_atom(book, ws, r, x);
     }
+    if kind == Kind::And as u32 {
+        return Reached::Onward(1, take_and(book, ws, r, x));
+    }
+    if kind == Kind::Or as u32 {
+        return Reached::Onward(1, take_or(book, ws, r, x));
+    }
+    Reached::Onward(1, take_suppose(book, ws, r, x, left))
 }

@@ -37,7 +37,7 @@ module _ (book ws : List ℕ) (r : Regs) (x : Cell) (f m : ℕ) (o : Option Plac
 
   pub atom_at : (p : Place) (y : Back) → o ≡ Some p → y ≡ atom_kept r x p.program p.clause → AtomTaken book ws r x (Clause 1 y r.alternatives)
   unfolding atom_reached
-  atom_at q i y e z = record { candidate = o; found = found_here; is = rw (e, z) refl }
+  atom_at p y e z = record { candidate = o; found = found_here; is = rw (e, z) refl }
 
   pub atom_none : (y : Regs) → o ≡ None → y ≡ back_regs r → AtomTaken book ws r x (ReachedOn 1 y)
   unfolding atom_reached
@@ -97,7 +97,7 @@ module _ (book : List ℕ) (F : Formed book) (ws : List ℕ) (r : Regs) (left : 
       → ReachGives book ws ws r left (solving x ∷ threads) (atom_reached r here o)
   unfolding atom_reached try_all
   by_candidate (Some p) (sought {c = f} {after = after} a b c) =
-      reach_clause {x = atom_kept r here q i} {k = r.alternatives} {used = 1} h (omega arith) (leaves_none ws) (atom_clause q i f after a b)
+      reach_clause {x = atom_kept r here p.program p.clause} {k = r.alternatives} {used = 1} h (omega arith) (leaves_none ws) (atom_clause p.program p.clause f after a b)
       (unit_gives left (solving x) threads h _ (atom_unit book F (tops_of r) ws r.cell r.taken r.supposed x H.sound H.branch X k l _ c))
   by_candidate None (no_more c) = reach_on (atom_fails c)
 

@@ -93,7 +93,7 @@ suppose_regs r = in_hand r r.cells (r.programs + 1) r.alternatives true
 
 -- Atom: its first candidate is tried, in the place of the first free alternative; with none, go back.
 unfoldable pub atom_kept : Regs → Cell → ℕ → ℕ → Back
-atom_kept r x p.program p.clause = record {
+atom_kept r x q i = record {
   made = r.made;
   trail = r.trail;
   cells = r.cells;

@@ -8,7 +8,8 @@ use native.Mathlib.Omega.{arith}
 use native.Mathlib.Nat.{sub-zero}
 use borrow.Author.Tests.{eq-eqb, ne_eqb, eqb-true, lt-ltb, le-ltb, ltb-true, le-leb, lt-leb, leb-true}
 use lib.Dec.{eqb, ltb}
-use lib.ListN.{length}
+use Rattle.std.specs.Prelude.{Option, Some, None, is_some}
+use Rattle.std.proofs.lemmas.Option.{none-some, same_Some}
 use Rattle.book.specs.Records.{field, records}
 use Rattle.book.specs.Kinds.{kind_at, kind_of}
 use Rattle.book.specs.Decode.{clauses_of}
@@ -16,18 +17,14 @@ use Rattle.book.proofs.Tests.{and_true}
 use Rattle.book.proofs.Accepted.{Formed}
 use Rattle.book.proofs.Pointers.{clause_body}
 use Rattle.machine.specs.Machine.{Force, candidates, added}
-use Rattle.index.specs.Runs.{head_matches, next_match, ClauseRun}
-use Rattle.index.specs.Index.{Indexed}
+use Rattle.index.specs.Runs.{head_matches, next_match, found_below}
+use Rattle.index.proofs.RunLaws.{found_some, found_none}
 use Rattle.branch.specs.State.{OwnReady, own_run}
-use Rattle.seeking.specs.Seeking.{AllIndexed}
 use Rattle.seeking.proofs.SeekLaws.{force_at, FoundAt, found_run}
 use Rattle.following.specs.declared.Followed.{Followed}
 use Rattle.following.specs.Plain.{plain_clause, first_own, next_own, only_own, plain_body, follow_on, PlainClause, own_program, Plain, Chain, Chain.chain_none, Chain.chain_more}
 
 module _ (book : List ℕ) (F : Formed book) (O : OwnReady book 0) (first n : ℕ) (fe : first ≡ (own_run book).first) (ne : n ≡ (own_run book).count) where
-  pub run_ready : (ws : List ℕ) → length ws ≡ 16384 → AllIndexed book ws → ClauseRun book first n × (((first < 4096) × (n ≤ 1024) × (length ws ≡ 16384)) × Indexed book first n ws)
-  run_ready ws l I = rw (fe, ne) (O.run, ((O.first_small, O.count_small, l), I.own))
-
   -- the links and the clauses are in the book
   pub link_in : (i : ℕ) → i < n → (first + i < records book) × (field book (first + i) 1 < records book)
   link_in i h = let x = O.run i (omega arith) in (omega (arith, x.0), rw fe x.1)
@@ -66,29 +63,41 @@ module _ (book : List ℕ) (F : Formed book) (O : OwnReady book 0) (first n : �
             go (inl x) = absurd (omega (arith, x.0))
             go (inr x) = let z : 0 + n - suc i ≡ n - suc i = omega arith in rw (sub-zero (own_run book).count, ← fe, ← ne) ((rw z at x.3) ∙ ap (λ (cs : List Force). force_at book first 0 i ∷ cs) none_after)
 
+-- WHAT THE INDEX FINDS
+pub found_is : (n j i : ℕ) (r : Option ℕ) → r ≡ found_below n j → r ≡ Some i → (i ≡ j) × (i < n)
+found_is n j i r e h = let x = found_some n j i (sym h ∙ e) in (x.1, omega (arith, x.0, x.1))
+
+pub found_one : (n j : ℕ) (r : Option ℕ) → r ≡ found_below n j → is_some r ≡ true → j < n
+found_one n j None e h = absurd (cc)
+found_one n j (Some i) e h = (found_some n j i e).0
+
+pub found_no_one : (n j : ℕ) (r : Option ℕ) → r ≡ found_below n j → is_some r ≡ false → n ≤ j
+found_no_one n j None e h = found_none n j e
+found_no_one n j (Some i) e h = absurd (cc)
+
 -- THE BODY OF THE PLAIN RULE, as the code finds it
 module _ (book : List ℕ) (c : ℕ) where
-  pub clause_variables : (field book c 1 ≡ 0 → ⊥) → 0 ≡ plain_clause book c
+  pub clause_variables : (field book c 1 ≡ 0 → ⊥) → None ≡ plain_clause book c
   unfolding plain_clause
   clause_variables h = rw (plain_clause, ne_eqb (field book c 1) 0 h) refl
 
-  pub clause_bodiless : field book c 1 ≡ 0 → (field book c 5 ≡ 1 → ⊥) → 0 ≡ plain_clause book c
+  pub clause_bodiless : field book c 1 ≡ 0 → (field book c 5 ≡ 1 → ⊥) → None ≡ plain_clause book c
   unfolding plain_clause
   clause_bodiless e h = rw (plain_clause, eq-eqb (field book c 1) 0 e, ne_eqb (field book c 5) 1 h) refl
 
-  pub clause_plain : field book c 1 ≡ 0 → field book c 5 ≡ 1 → field book c 6 + 1 ≡ plain_clause book c
+  pub clause_plain : field book c 1 ≡ 0 → field book c 5 ≡ 1 → Some (field book c 6) ≡ plain_clause book c
   unfolding plain_clause
   clause_plain e d = rw (plain_clause, eq-eqb (field book c 1) 0 e, eq-eqb (field book c 5) 1 d) refl
 
 module _ (book : List ℕ) (g : ℕ) where
-  pub not_atom : (field book g 0 ≡ 4 → ⊥) → 0 ≡ plain_body book g
+  pub not_atom : eqb (field book g 0) 4 ≡ false → None ≡ plain_body book g
   unfolding plain_body
-  not_atom h = rw (plain_body, ne_eqb (field book g 0) 4 h) refl
+  not_atom h = rw (plain_body, h) refl
 
-  module _ (kind : field book g 0 ≡ 4) where
-    pub not_bare : (field book g 2 ≡ 0 → ⊥) → 0 ≡ plain_body book g
+  module _ (kind : eqb (field book g 0) 4 ≡ true) where
+    pub not_bare : (field book g 2 ≡ 0 → ⊥) → None ≡ plain_body book g
     unfolding plain_body
-    not_bare h = rw (plain_body, eq-eqb (field book g 0) 4 kind, ne_eqb (field book g 2) 0 h) refl
+    not_bare h = rw (plain_body, kind, ne_eqb (field book g 2) 0 h) refl
 
     module _ (bare : field book g 2 ≡ 0) (first n : ℕ) (fe : first ≡ (own_run book).first) (ne : n ≡ (own_run book).count) (f : ℕ) (fg : f ≡ field book g 1)
         (i : ℕ) (ie : i ≡ next_match book f 0 first 0 n) where
@@ -98,21 +107,21 @@ module _ (book : List ℕ) (g : ℕ) where
       count_own : (own_run book).count ≡ n
       count_own = sym ne
 
-      pub none_own : n ≤ i → 0 ≡ plain_body book g
+      pub none_own : n ≤ i → None ≡ plain_body book g
       unfolding plain_body only_own
-      none_own h = rw (plain_body, eq-eqb (field book g 0) 4 kind, eq-eqb (field book g 2) 0 bare, first_own_lem, count_own, le-ltb i n h) refl
+      none_own h = rw (plain_body, kind, eq-eqb (field book g 2) 0 bare, first_own_lem, count_own, le-ltb i n h) refl
 
       module _ (h : i < n) (j : ℕ) (je : j ≡ next_match book f 0 first (i + 1) (n - (i + 1))) where
         next_own_lem : next_own book (field book g 1) i ≡ j
         next_own_lem = sym (je ∙ rw (fe, ne, fg) refl)
 
-        pub two_own : j < n → 0 ≡ plain_body book g
+        pub two_own : j < n → None ≡ plain_body book g
         unfolding plain_body only_own
-        two_own l = rw (plain_body, eq-eqb (field book g 0) 4 kind, eq-eqb (field book g 2) 0 bare, first_own_lem, next_own_lem, count_own, lt-ltb i n h, lt-leb n j l) refl
+        two_own l = rw (plain_body, kind, eq-eqb (field book g 2) 0 bare, first_own_lem, next_own_lem, count_own, lt-ltb i n h, lt-leb n j l) refl
 
         just_one : n ≤ j → (eqb (field book g 0) 4 && (eqb (field book g 2) 0 && only_own book (field book g 1))) ≡ true
         unfolding only_own
-        just_one l = rw (eq-eqb (field book g 0) 4 kind, eq-eqb (field book g 2) 0 bare, only_own, first_own_lem, next_own_lem, count_own, lt-ltb i n h, le-leb n j l) refl
+        just_one l = rw (kind, eq-eqb (field book g 2) 0 bare, only_own, first_own_lem, next_own_lem, count_own, lt-ltb i n h, le-leb n j l) refl
 
         pub one_own : n ≤ j → plain_clause book (field book (first + i) 1) ≡ plain_body book g
         unfolding plain_body
@@ -121,25 +130,25 @@ module _ (book : List ℕ) (g : ℕ) where
             ap (λ (k : ℕ). plain_clause book (field book k 1)) z ∙ rw (plain_body, just_one l) refl
 
 -- WHAT IT MEANS
-clause_means : (book : List ℕ) (c b : ℕ) → plain_clause book c ≡ suc b → PlainClause book c b
+clause_means : (book : List ℕ) (c b : ℕ) → plain_clause book c ≡ Some b → PlainClause book c b
 unfolding plain_clause
 clause_means book c b e = go (eqb (field book c 1) 0 && eqb (field book c 5) 1) refl e
   where
-    go : (t : Bool) → (eqb (field book c 1) 0 && eqb (field book c 5) 1) ≡ t → elim t [ true ↦ field book c 6 + 1 | false ↦ 0 ] ≡ suc b → PlainClause book c b
-    go true z d = let x = and_true (eqb (field book c 1) 0) _ z in record { bare = eqb-true _ _ x.0; some = eqb-true _ _ x.1; body = omega arith }
-    go false z d = absurd (omega arith)
+    go : (t : Bool) → (eqb (field book c 1) 0 && eqb (field book c 5) 1) ≡ t → elim t [ true ↦ Some (field book c 6) | false ↦ None ] ≡ Some b → PlainClause book c b
+    go true z d = let x = and_true (eqb (field book c 1) 0) _ z in record { bare = eqb-true _ _ x.0; some = eqb-true _ _ x.1; body = same_Some _ _ d }
+    go false z d = absurd (none-some b d)
 
 module _ (book : List ℕ) (F : Formed book) (O : OwnReady book 0) (g b : ℕ) (inside : g < records book) where
   abbrev f : ℕ
   f = field book g 1
 
-  pub plain_means : plain_body book g ≡ suc b → Plain book g b
+  pub plain_means : plain_body book g ≡ Some b → Plain book g b
   unfolding plain_body only_own kind_at kind_of
   plain_means e = go (eqb (field book g 0) 4 && (eqb (field book g 2) 0 && only_own book f)) refl e
     where
       go : (t : Bool) → (eqb (field book g 0) 4 && (eqb (field book g 2) 0 && only_own book f)) ≡ t
-          → elim t [ true ↦ plain_clause book (field book ((own_run book).first + first_own book f) 1) | false ↦ 0 ] ≡ suc b → Plain book g b
-      go false z d = absurd (omega arith)
+          → elim t [ true ↦ plain_clause book (field book ((own_run book).first + first_own book f) 1) | false ↦ None ] ≡ Some b → Plain book g b
+      go false z d = absurd (none-some b d)
       go true z d =
           let x = and_true (eqb (field book g 0) 4) _ z in
           let y = and_true (eqb (field book g 2) 0) _ x.1 in
@@ -175,10 +184,10 @@ module _ (book : List ℕ) (F : Formed book) (O : OwnReady book 0) (start : ℕ)
   leads_on zero g n h C = (C, omega arith, h)
   leads_on (suc more) g n h C = go (plain_body book g) refl (λ b l D. leads_on more b (suc n) l D)
     where
-      go : (r : ℕ) → plain_body book g ≡ r → ((b : ℕ) → b < records book → Chain book start b (suc n) → Leads (suc n) more (follow_on book b (suc n) more))
-          → Leads n (suc more) (elim r [ zero ↦ record { goal = g; rules = n } | suc b ↦ follow_on book b (suc n) more ])
-      go zero e rest = (C, omega arith, h)
-      go (suc b) e rest =
+      go : (r : Option ℕ) → plain_body book g ≡ r → ((b : ℕ) → b < records book → Chain book start b (suc n) → Leads (suc n) more (follow_on book b (suc n) more))
+          → Leads n (suc more) (elim r [ None ↦ record { goal = g; rules = n } | Some b ↦ follow_on book b (suc n) more ])
+      go None e rest = (C, omega arith, h)
+      go (Some b) e rest =
           let P = plain_means book F O g b h e in
           let x = rest b (body_in book F O g b P) (chain_more {n = suc n} C P refl) in (x.0, omega (arith, x.1), x.2)
 
@@ -191,21 +200,20 @@ module _ (book : List ℕ) where
   loop_start g most = let z : most - 0 ≡ most = omega arith in rw z refl
 
   module _ (g n most : ℕ) where
-    pub loop_end : n ≤ most → most ≤ n → record { goal = g; rules = n } ≡ follow_on book g n (most - n)
+    pub loop_end : n ≤ most → most ≤ n → record { goal = g; rules = most } ≡ follow_on book g n (most - n)
     unfolding follow_on
-    loop_end l h = let z : most - n ≡ 0 = omega arith in rw (z, follow_on) refl
+    loop_end l h = let z : most - n ≡ 0 = omega arith in let e : n ≡ most = omega arith in rw (z, follow_on, e) refl
 
-    pub loop_none : plain_body book g ≡ 0 → n < most → record { goal = g; rules = n } ≡ follow_on book g n (most - n)
+    pub loop_none : plain_body book g ≡ None → n < most → record { goal = g; rules = n } ≡ follow_on book g n (most - n)
     unfolding follow_on
     loop_none e h = let z : most - n ≡ suc (most - (n + 1)) = omega arith in rw (z, follow_on, e) refl
 
-    pub loop_one : (r : ℕ) → r ≡ plain_body book g → 0 < r → n < most → follow_on book (r - 1) (n + 1) (most - (n + 1)) ≡ follow_on book g n (most - n)
+    pub loop_one : (b : ℕ) → plain_body book g ≡ Some b → n < most → follow_on book b (n + 1) (most - (n + 1)) ≡ follow_on book g n (most - n)
     unfolding follow_on
-    loop_one r e s h =
+    loop_one b e h =
         let z : most - n ≡ suc (most - (n + 1)) = omega arith in
-        let y : plain_body book g ≡ suc (r - 1) = sym e ∙ omega arith in
         let x : n + 1 ≡ suc n = omega arith in
-        rw (z, follow_on, y, x) refl
+        rw (z, follow_on, e, x) refl
 
-pub loop_in : (book : List ℕ) (F : Formed book) (O : OwnReady book 0) (g r : ℕ) → g < records book → r ≡ plain_body book g → 0 < r → r - 1 < records book
-loop_in book F O g r h e s = body_in book F O g (r - 1) (plain_means book F O g (r - 1) h (sym e ∙ omega arith))
+pub loop_in : (book : List ℕ) (F : Formed book) (O : OwnReady book 0) (g b : ℕ) → g < records book → plain_body book g ≡ Some b → b < records book
+loop_in book F O g b h e = body_in book F O g b (plain_means book F O g b h e)

@@ -1,5 +1,5 @@
 -- A plain rule: the only candidate for an atom without arguments, among the question's own clauses; it has no variables, and a body.
-use Rattle.std.specs.Prelude.{◌≡◌, Bool, true, false, ◌&&◌, List, [], ◌∷◌, ℕ, zero, suc, ◌+◌, ◌-◌, ◌<◌, eqb, leb, ltb}
+use Rattle.std.specs.Prelude.{◌≡◌, Bool, true, false, ◌&&◌, List, [], ◌∷◌, ℕ, zero, suc, ◌+◌, ◌-◌, ◌<◌, eqb, leb, ltb, Option, Some, None}
 use Rattle.book.specs.Records.{field, records}
 use Rattle.book.specs.Kinds.{kind_at, atom_kind}
 use Rattle.book.specs.Decode.{clause_of}
@@ -8,9 +8,9 @@ use Rattle.index.specs.Runs.{next_match}
 use Rattle.branch.specs.State.{own_run, rest_of}
 use Rattle.following.specs.declared.Followed.{Followed}
 
--- clause c: one more than the record of its body, if it has no variables; 0 if it has some, or no body
-unfoldable pub plain_clause : List ℕ → ℕ → ℕ
-plain_clause book c = elim (eqb (field book c 1) 0 && eqb (field book c 5) 1) [ true ↦ field book c 6 + 1 | false ↦ 0 ]
+-- clause c: the record of its body, if it has no variables, and a body
+unfoldable pub plain_clause : List ℕ → ℕ → Option ℕ
+plain_clause book c = elim (eqb (field book c 1) 0 && eqb (field book c 5) 1) [ true ↦ Some (field book c 6) | false ↦ None ]
 
 -- the number of the first of the question's own clauses with symbol f and no arguments, and of the next after i; as many as there are clauses, if there is none
 abbrev pub first_own : List ℕ → ℕ → ℕ
@@ -23,15 +23,15 @@ next_own book f i = next_match book f 0 (own_run book).first (i + 1) ((own_run b
 unfoldable pub only_own : List ℕ → ℕ → Bool
 only_own book f = ltb (first_own book f) (own_run book).count && leb (own_run book).count (next_own book f (first_own book f))
 
--- goal g: one more than the record of the body of the plain rule for it; 0 if there is none
-unfoldable pub plain_body : List ℕ → ℕ → ℕ
+-- goal g: the record of the body of the plain rule for it, if there is one
+unfoldable pub plain_body : List ℕ → ℕ → Option ℕ
 plain_body book g = elim (eqb (field book g 0) 4 && (eqb (field book g 2) 0 && only_own book (field book g 1)))
-    [ true ↦ plain_clause book (field book ((own_run book).first + first_own book (field book g 1)) 1) | false ↦ 0 ]
+    [ true ↦ plain_clause book (field book ((own_run book).first + first_own book (field book g 1)) 1) | false ↦ None ]
 
 -- n rules were entered on the way to goal g; so many more may be
 unfoldable pub follow_on : List ℕ → ℕ → ℕ → ℕ → Followed
 follow_on book g n zero = record { goal = g; rules = n }
-follow_on book g n (suc more) = elim (plain_body book g) [ zero ↦ record { goal = g; rules = n } | suc b ↦ follow_on book b (suc n) more ]
+follow_on book g n (suc more) = elim (plain_body book g) [ None ↦ record { goal = g; rules = n } | Some b ↦ follow_on book b (suc n) more ]
 
 -- WHAT THAT MEANS for the machine
 pub record PlainClause (book : List ℕ) (c b : ℕ) : Type 0 where

@@ -2,13 +2,15 @@
 // binds nothing and makes nothing: the body takes the atom's place. So a chain of such rules is followed, two units a rule, without a word being written.
 #![tactic(auto)]
 
-ghost use Rattle.std.specs.Prelude.{◌≡◌, ◌<◌, length};
+ghost use Rattle.std.specs.Prelude.{◌≡◌, ◌<◌};
 ghost use Rattle.book.specs.Records.{records};
 ghost use Rattle.book.proofs.Accepted.{Formed};
 ghost use Rattle.branch.specs.State.{OwnReady, own_run};
 ghost use Rattle.seeking.specs.Seeking.{AllIndexed};
 ghost use Rattle.following.specs.Plain.{plain_clause, plain_body, follow_on};
 
+use book::Kind;
+use index::{Head, Run};
 use words::{Book, Words};
 
 // Where plain rules lead: the goal, and how many were entered on the way.
@@ -18,43 +20,42 @@ pub struct Followed {
     pub rules: u32,
 }
 
-// The body of clause c, one more than its record, if c has no variables; 0 if it has some, or no body.
-fn plain_clause(book: &Book, c: u32) -> u32
-    requires c_bound { c < records book.now.bytes.now }
+// The record of the body of clause c, if c has no variables, and a body.
+fn plain_clause(book: &Book, c: u32) -> Option<u32>
+    requires { c < records book.now.bytes.now }
     ensures { result ≡ plain_clause book.now.bytes.now c }
 {
     if book.field(c, 1) != 0 {
-        return 0;
+        return None;
     }
     if book.field(c, 5) != 1 {
-        return 0;
+        return None;
     }
-    book.field(c, 6) + 1
+    Some(book.field(c, 6))
 }
 
-// The body of the plain rule for goal g, one more than its record; 0 if there is none. The question's own run is n links from `first`.
-fn plain_body(book: &Book, ws: &Words, first: u32, n: u32, g: u32) -> u32
+// The record of the body of the plain rule for goal g, if there is one. The question's own run is `run`.
+fn plain_body(book: &Book, ws: &Words, run: Run, g: u32) -> Option<u32>
     requires formed { Formed book.now.bytes.now × OwnReady book.now.bytes.now 0 × AllIndexed book.now.bytes.now ws.now }
-    requires first_value { (first ≡ (own_run book.now.bytes.now).first) × (n ≡ (own_run book.now.bytes.now).count) }
+    requires run_value { (run.first ≡ (own_run book.now.bytes.now).first) × (run.count ≡ (own_run book.now.bytes.now).count) }
     requires g_bound { g < records book.now.bytes.now }
     ensures { result ≡ plain_body book.now.bytes.now g }
 {
-    if book.field(g, 0) != 4 {
-        return 0;
+    if !book.is(g, Kind::Atom) {
+        return None;
     }
     if book.field(g, 2) != 0 {
-        return 0;
+        return None;
     }
-    let f = book.field(g, 1);
-    let i = index::first_match(book, ws, first, n, f, 0);
-    if n <= i {
-        return 0;
+    let head = Head {
+        count: 0,
+        ..Head::read(book, g)
+    };
+    let i = index::first_match(book, ws, run, head)?;
+    if index::match_after(book, ws, run, i, head).is_some() {
+        return None;
     }
-    let j = index::match_after(book, ws, first, n, i, f, 0);
-    if j < n {
-        return 0;
-    }
-    let c = index::clause_at(book, ws, first, n, f, i);
+    let c = index::clause_at(book, ws, run, u32::from(head.symbol), i);
     plain_clause(book, c)
 }
 
@@ -65,23 +66,16 @@ pub fn follow(book: &Book, ws: &Words, goal: u32, most: u32) -> Followed
     ensures { result ≡ follow_on book.now.bytes.now goal 0 most }
 {
     let last = book.last();
-    let first = book.field(last, 1);
-    let n = book.field(last, 2);
+    let run = Run::read(book, last);
     let mut g = goal;
-    let mut rules: u32 = 0;
-    while rules < most {
-        let b = plain_body(book, ws, first, n, g);
-        if b == 0 {
-            return Followed {
-                goal: g,
-                rules: rules,
-            };
-        }
-        g = b - 1;
-        rules += 1;
+    for rules in 0..most {
+        let Some(body) = plain_body(book, ws, run, g) else {
+            return Followed { goal: g, rules };
+        };
+        g = body;
     }
     Followed {
         goal: g,
-        rules: rules,
+        rules: most,
     }
 }

@@ -9,10 +9,23 @@ use lib.ListN.{length, get_or, set, length-set}
 use lib.Seq.{get_or-set_same, get_or-set_other}
 use Rattle.words.specs.Frame.{Keeps}
 use Rattle.words.proofs.StackLaws.{keeps_narrow}
-use Rattle.seeking.specs.Memo.{mark_of, place_of, entry_at, head_rest, Finds, EntryRight, Memo, memo_words, MemoOnly, MemoStays}
+use Rattle.std.specs.Prelude.{Option, Some, None, SomeIff, IfSome}
+use denote.Enum.Declared.{tag_of}
+use Rattle.seeking.specs.contracts.Half.{the_type}
+use Rattle.seeking.specs.declared.Half.{Half}
+use Rattle.seeking.specs.declared.Half.TheVariants.{First, After}
+use Rattle.seeking.specs.Memo.{half_number, mark_of, place_of, entry_at, head_rest, Finds, EntryRight, Memo, memo_words, MemoOnly, MemoStays}
 use Rattle.seeking.proofs.MemoLaws.{finds_keeps}
 
 -- WHERE AN ENTRY IS
+pub half_tag : (half : Half) → tag_of the_type half ≡ half_number half
+half_tag First = refl
+half_tag After = refl
+
+pub half_most : (half : Half) → half_number half ≤ 1
+half_most First = omega arith
+half_most After = omega arith
+
 pub entry_here : (mark half f : ℕ) → half ≤ 1 → (13568 + 1024 * half + 2 * ((2 * (mark % 512) + f) % 512) ≡ entry_at mark half f) × (13568 + 1024 * half + 2 * ((2 * (mark % 512) + f) % 512) + 1 < 15616)
 unfolding entry_at
 entry_here mark half f h = (refl, omega arith)
@@ -31,7 +44,11 @@ rest_says : (n : ℕ) {f m g o : ℕ} → m ≤ 8 → o ≤ 8 → place_of n f �
 unfolding head_rest
 rest_says n {f} {m} {g} {o} a b p r = let q : f / 512 ≡ g / 512 = omega arith in (omega arith, omega arith)
 
--- WHAT IS KNOWN
+-- WHAT IS KNOWN, if there is something: the code's test of it
+pub if_some : {P : Type 0} {v : ℕ} (Q : ℕ → Type 0) (o : Option ℕ) → SomeIff o P v → (P → Q v) → IfSome o Q
+if_some Q None s h = tt
+if_some Q (Some x) s h = rw s.1 (h s.0)
+
 pub known_finds : {book ws : List ℕ} {top left q half f m mark e h : ℕ} → Memo book ws top left → 0 < q → q < top → half ≤ 1 → mark ≡ mark_of ws q → e ≡ entry_at mark half f → h ≡ head_rest f m
     → get_or ws e 0 ≡ mark → get_or ws (e + 1) 0 / 131072 ≡ h → m ≤ 8 → 0 < get_or ws (e + 1) 0 % 131072 → Finds book ws q f m (get_or ws (e + 1) 0 % 131072 - 1)
 unfolding entry_at

@@ -11,7 +11,8 @@ use Rattle.words.specs.Frame.{Keeps}
 use Rattle.words.proofs.StackLaws.{keeps_refl, keeps_trans, keeps_narrow}
 use Rattle.words.proofs.ClearLaws.{clear_keeps, clear_zero}
 use Rattle.words.proofs.FrameLaws.{fits_most}
-use Rattle.seeking.specs.declared.Candidate.{Candidate}
+use Rattle.std.specs.Prelude.{Option}
+use Rattle.seeking.specs.declared.Place.{Place}
 use Rattle.branch.specs.State.{Tops, IsRest, IsRest.own_rest, IsRest.put_rest, Sound, Agree}
 use Rattle.seeking.specs.Seeking.{Sought, Sought.sought, Sought.no_more, SoughtPut, SoughtPut.put_here, SoughtPut.put_nowhere}
 use Rattle.seeking.specs.Memo.{mark_of, forget_words, Finds, EntryRight, Memo, MemoOnly, MemoStays}
@@ -28,17 +29,17 @@ module _ {book ws ws' : List ℕ} {top : ℕ} (K : Keeps 8200 (8200 + 3 * top) w
   rest_keeps (put_rest {p = p} {program = program} a b c d e f g m j r) =
       put_rest {program = program} a b (K.same (8200 + 3 * p) (omega arith) (omega arith) ∙ c) (K.same (8200 + 3 * p + 1) (omega arith) (omega arith) ∙ d) e f g m j (rest_keeps r)
 
-  pub sought_keeps : {made f m : ℕ} {rest : List Force} {o : Candidate} → Sought book ws made top f m rest o → Sought book ws' made top f m rest o
-  sought_keeps (sought {q = q} {i = i} {c = c} {after = after} r y z) = sought {q = q} {i = i} {c = c} {after = after} (rest_keeps r.0, rest_keeps r.1) y z
+  pub sought_keeps : {made f m : ℕ} {rest : List Force} {o : Option Place} → Sought book ws made top f m rest o → Sought book ws' made top f m rest o
+  sought_keeps (sought {x = x} {c = c} {after = after} r y z) = sought {x = x} {c = c} {after = after} (rest_keeps r.0, rest_keeps r.1) y z
   sought_keeps (no_more z) = no_more z
 
   pub put_keeps : {made f m w : ℕ} {rest : List Force} → SoughtPut book ws made top f m rest w → SoughtPut book ws' made top f m rest w
   put_keeps (put_here e l s) = put_here e l (sought_keeps s)
   put_keeps (put_nowhere {own = own} e r c) = put_nowhere {own = own} e (rest_keeps r) c
 
-sought_more : {book ws : List ℕ} {made top top' f m : ℕ} {rest : List Force} {o : Candidate} → top ≤ top' → Sought book ws made top f m rest o → Sought book ws made top' f m rest o
-sought_more {made = made} h (sought {q = q} {i = i} {c = c} {after = after} r y z) =
-    sought {q = q} {i = i} {c = c} {after = after} (rest_more {made = made} (omega arith) h r.0, rest_more {made = made} (omega arith) h r.1) y z
+sought_more : {book ws : List ℕ} {made top top' f m : ℕ} {rest : List Force} {o : Option Place} → top ≤ top' → Sought book ws made top f m rest o → Sought book ws made top' f m rest o
+sought_more {made = made} h (sought {x = x} {c = c} {after = after} r y z) =
+    sought {x = x} {c = c} {after = after} (rest_more {made = made} (omega arith) h r.0, rest_more {made = made} (omega arith) h r.1) y z
 sought_more h (no_more z) = no_more z
 
 put_more : {book ws : List ℕ} {made top top' f m w : ℕ} {rest : List Force} → top ≤ top' → SoughtPut book ws made top f m rest w → SoughtPut book ws made top' f m rest w

@@ -12,14 +12,14 @@ use Rattle.book.proofs.Pointers.{suppose_clauses}
 use Rattle.machine.specs.Machine.{Force, candidates}
 use Rattle.words.specs.Words.{term_word, rec_of}
 use Rattle.words.specs.Readable.{Readable}
-use Rattle.seeking.specs.declared.Candidate.TheVariants.{At}
+use Rattle.std.specs.Prelude.{Option, Some, None}
 use Rattle.branch.specs.State.{OwnReady, Run, rest_of, run_of_suppose, GoalHere, IsRest, IsRest.own_rest, IsRest.put_rest}
-use Rattle.index.specs.Runs.{head_matches, next_match, found_among}
+use Rattle.index.specs.Runs.{head_matches, next_match, found_below}
 use Rattle.index.specs.Index.{head_bucket}
 use Rattle.seeking.specs.Seeking.{AllIndexed, own_candidate, IsCandidate, Sought, Sought.sought, Sought.no_more, PutMatches, Standing, SoughtPut, SoughtPut.put_here, SoughtPut.put_nowhere}
 use Rattle.seeking.proofs.SeekLaws.{force_at, ClauseKinds, one_candidate, none_here, some_here, rest_begins}
 use Rattle.words.proofs.PackLaws.{rec_pack, pack_large}
-use Rattle.seeking.specs.declared.Candidate.{Candidate}
+use Rattle.seeking.specs.declared.Place.{Place}
 use Rattle.supposed.specs.Supposed.{marked, SupposedIndexed}
 use Rattle.index.proofs.RunLaws.{suppose_run, found_some, found_none}
 use Rattle.supposed.proofs.SearchLaws.{not_marked}
@@ -88,35 +88,35 @@ module _ (book : List ℕ) (R : Readable book) (F : Formed book) (ws : List ℕ)
     rest_at i l =
         put_rest {p = q} {i = i} {s = X.s} {b = X.b} {program = X.program} X.some X.below X.word X.link X.falls X.kind X.here X.base l X.before
 
-    seek_found : (j : ℕ) → j ≡ next → j < field book X.s 2 → Sought book ws made top f m rest (At q j)
+    seek_found : (j : ℕ) → j ≡ next → j < field book X.s 2 → Sought book ws made top f m rest (Some (record { program = q; clause = j }))
     seek_found j e l =
         let y = some_here book F f m (run_of_suppose book X.s X.b) X.program k X.most kinds_here (rw (← e) l) in
         let z = rest_begins book F f m (run_of_suppose book X.s X.b) X.program k X.most kinds_here j l in
         rw X.is
-        (sought {q = q} {i = j} {c = force_at book (field book X.s 1) X.b j} {after = rest_of book (run_of_suppose book X.s X.b) (suc j) X.program}
+        (sought {x = record { program = q; clause = j }} {c = force_at book (field book X.s 1) X.b j} {after = rest_of book (run_of_suppose book X.s X.b) (suc j) X.program}
         (rw (← z) (rest_at j (omega arith)), rest_at (suc j) (omega arith)) (rw (← e) at y.0) (rw (← e) at y.1))
 
     -- what is found among its clauses from k on
-    module _ (r : ℕ) (e : r ≡ found_among (field book goal 2) (next_match book f m (field book goal 1) k (field book goal 2 - k))) where
-      among : r ≡ found_among (field book X.s 2) next
+    module _ (r : Option ℕ) (e : r ≡ found_below (field book goal 2) (next_match book f m (field book goal 1) k (field book goal 2 - k))) where
+      among : r ≡ found_below (field book X.s 2) next
       among = e ∙ rw record_is refl
 
-      pub found_here : 0 < r → Sought book ws made top f m rest (At q (r - 1))
-      found_here h = let y = found_some _ _ r among h in seek_found (r - 1) (omega (arith, y.1)) (omega (arith, y.0, y.1))
+      pub found_here : (i : ℕ) → r ≡ Some i → Sought book ws made top f m rest (Some (record { program = q; clause = i }))
+      found_here i h = let y = found_some _ _ i (sym h ∙ among) in seek_found i y.1 (omega (arith, y.0, y.1))
 
-      pub none_found : r ≤ 0 → candidates f m rest ≡ candidates f m X.program
-      none_found h = seek_next (found_none _ _ r among h)
+      pub none_found : r ≡ None → candidates f m rest ≡ candidates f m X.program
+      none_found h = seek_next (found_none _ _ (sym h ∙ among))
 
 -- from its first clause on
-module _ (book : List ℕ) (R : Readable book) (F : Formed book) (ws : List ℕ) (made top q : ℕ) (rest : List Force) (X : PutAt book ws made top q 0 rest) (f m r : ℕ)
-    (e : r ≡ found_among (field book (get_or ws (8200 + 3 * q) 0 / 4096 - 1) 2) (next_match book f m (field book (get_or ws (8200 + 3 * q) 0 / 4096 - 1) 1) 0 (field book (get_or ws (8200 + 3 * q) 0 / 4096 - 1) 2))) where
-  from_none : r ≡ found_among (field book (get_or ws (8200 + 3 * q) 0 / 4096 - 1) 2) (next_match book f m (field book (get_or ws (8200 + 3 * q) 0 / 4096 - 1) 1) 0 (field book (get_or ws (8200 + 3 * q) 0 / 4096 - 1) 2 - 0))
+module _ (book : List ℕ) (R : Readable book) (F : Formed book) (ws : List ℕ) (made top q : ℕ) (rest : List Force) (X : PutAt book ws made top q 0 rest) (f m : ℕ) (r : Option ℕ)
+    (e : r ≡ found_below (field book (get_or ws (8200 + 3 * q) 0 / 4096 - 1) 2) (next_match book f m (field book (get_or ws (8200 + 3 * q) 0 / 4096 - 1) 1) 0 (field book (get_or ws (8200 + 3 * q) 0 / 4096 - 1) 2))) where
+  from_none : r ≡ found_below (field book (get_or ws (8200 + 3 * q) 0 / 4096 - 1) 2) (next_match book f m (field book (get_or ws (8200 + 3 * q) 0 / 4096 - 1) 1) 0 (field book (get_or ws (8200 + 3 * q) 0 / 4096 - 1) 2 - 0))
   from_none = let z : field book (get_or ws (8200 + 3 * q) 0 / 4096 - 1) 2 - 0 ≡ field book (get_or ws (8200 + 3 * q) 0 / 4096 - 1) 2 = omega arith in rw z e
 
-  pub first_here : 0 < r → Sought book ws made top f m rest (At q (r - 1))
-  first_here h = found_here book R F ws made top q 0 rest X f m r from_none h
+  pub first_here : (i : ℕ) → r ≡ Some i → Sought book ws made top f m rest (Some (record { program = q; clause = i }))
+  first_here i h = found_here book R F ws made top q 0 rest X f m r from_none i h
 
-  pub first_none : r ≤ 0 → candidates f m rest ≡ candidates f m X.program
+  pub first_none : r ≡ None → candidates f m rest ≡ candidates f m X.program
   first_none h = none_found book R F ws made top q 0 rest X f m r from_none h
 
 -- a candidate of a program that was put matches
@@ -164,9 +164,9 @@ candidate_put book R F ws made top p i f m h X =
     (omega (arith, P.most, y.2), (X.after, rw z X.clause.1))
 
 -- the answer for a rest with the same candidates
-pub sought_as : {book ws : List ℕ} {made top f m : ℕ} {rest rest' : List Force} {o : Candidate} → candidates f m rest ≡ candidates f m rest'
+pub sought_as : {book ws : List ℕ} {made top f m : ℕ} {rest rest' : List Force} {o : Option Place} → candidates f m rest ≡ candidates f m rest'
     → Sought book ws made top f m rest o → Sought book ws made top f m rest' o
-sought_as e (sought {c = c} {after = after} r x y) = sought {c = c} {after = after} r x (sym e ∙ y)
+sought_as e (sought {x = p} {c = c} {after = after} r x y) = sought {x = p} {c = c} {after = after} r x (sym e ∙ y)
 sought_as e (no_more y) = no_more (sym e ∙ y)
 
 pub put_as : {book ws : List ℕ} {made top f m w : ℕ} {rest rest' : List Force} → candidates f m rest ≡ candidates f m rest'
@@ -176,11 +176,11 @@ put_as e (put_nowhere {own = own} a X c) = put_nowhere {own = own} a X (c ∙ e)
 
 -- WHAT THE WORD SAYS
 module _ {book ws : List ℕ} {made top f m : ℕ} {rest : List Force} {w : ℕ} (S : SoughtPut book ws made top f m rest w) where
-  pub word_here : 0 < w → Sought book ws made top f m rest (At ((w - 1) / 128) ((w - 1) % 128))
+  pub word_here : 0 < w → Sought book ws made top f m rest (Some (record { program = (w - 1) / 128; clause = (w - 1) % 128 }))
   word_here h = go S
     where
-      go : SoughtPut book ws made top f m rest w → Sought book ws made top f m rest (At ((w - 1) / 128) ((w - 1) % 128))
-      go (put_here {q = q} {i = i} e l X) = let a : (w - 1) / 128 ≡ q = omega arith in let b : (w - 1) % 128 ≡ i = omega arith in rw (a, b) X
+      go : SoughtPut book ws made top f m rest w → Sought book ws made top f m rest (Some (record { program = (w - 1) / 128; clause = (w - 1) % 128 }))
+      go (put_here {x = x} e l X) = let a : (w - 1) / 128 ≡ x.program = omega arith in let b : (w - 1) % 128 ≡ x.clause = omega arith in rw (a, b) X
       go (put_nowhere e X c) = absurd (omega arith)
 
   pub word_nowhere : (F : Formed book) → OwnReady book 0 → w ≤ 0 → Sought book ws made top f m rest (own_candidate book f m 0)

@@ -6,17 +6,16 @@ use mathlib.Core.List.{List, [], ◌∷◌}
 use Prim.Native.Nat.{ℕ, suc, ◌+◌, ◌-◌, ◌≤◌, ◌<◌}
 use native.Mathlib.Omega.{arith}
 use native.Mathlib.Decide.{dec_lt}
-use borrow.Author.Tests.{lt-ltb, le-ltb}
+use Rattle.std.specs.Prelude.{Option, Some, None}
 use lib.ListN.{length}
 use Rattle.book.specs.Records.{field, records, last_record}
 use Rattle.book.proofs.Accepted.{Formed}
 use Rattle.machine.specs.Machine.{Force, candidates}
 use Rattle.words.specs.Readable.{Readable}
-use Rattle.seeking.specs.declared.Candidate.TheVariants.{At, Nothing}
 use Rattle.branch.specs.State.{OwnReady, Run, rest_of, own_run, IsRest, IsRest.own_rest, IsRest.put_rest}
-use Rattle.index.specs.Runs.{head_matches, next_match, ClauseRun}
-use Rattle.index.specs.Index.{Indexed}
-use Rattle.seeking.specs.Seeking.{AllIndexed, OwnMatches, candidate_at, own_candidate, IsCandidate, Sought, Sought.sought, Sought.no_more}
+use Rattle.index.specs.Runs.{head_matches, next_match, found_below}
+use Rattle.index.proofs.RunLaws.{found_yes, found_no}
+use Rattle.seeking.specs.Seeking.{OwnMatches, own_place, own_candidate, IsCandidate, Sought, Sought.sought, Sought.no_more}
 use Rattle.seeking.proofs.SeekLaws.{force_at, ClauseKinds, one_candidate, none_here, some_here, rest_begins}
 
 -- a place of the question's own run
@@ -26,37 +25,26 @@ own_at h (own_rest e m u) = (refl, m, u)
 own_at h (put_rest a c d e f g i j m r) = absurd (omega arith)
 
 -- THE QUESTION'S OWN RUN
-module _ (book : List ℕ) (f m k : ℕ) (last first n j : ℕ) (le : last ≡ last_record book) (fe : first ≡ field book last 1) (ne : n ≡ field book last 2)
-    (je : j ≡ next_match book f m first k (n - k)) where
-  own_found : j ≡ next_match book f m (own_run book).first k ((own_run book).count - k)
-  own_found = je ∙ rw (fe, ne, le) refl
+-- what is found in it is the place of a clause of it
+module _ (book : List ℕ) (f m k last first n : ℕ) (r : Option ℕ) (le : last ≡ last_record book) (fe : first ≡ field book last 1) (ne : n ≡ field book last 2)
+    (e : r ≡ found_below n (next_match book f m first k (n - k))) where
+  own_is : own_place r ≡ own_candidate book f m k
+  unfolding own_candidate
+  own_is = ap own_place (e ∙ rw (fe, ne, le) refl)
 
-  pub own_yes : j < n → At 0 j ≡ own_candidate book f m k
-  unfolding own_candidate candidate_at
-  own_yes h =
-      let c : (own_run book).count ≡ n = rw (ne, le) refl in
-      rw (own_candidate, ← own_found, c, lt-ltb j n h) refl
+  pub own_yes : (i : ℕ) → r ≡ Some i → Some (record { program = 0; clause = i }) ≡ own_candidate book f m k
+  own_yes i h = ap own_place (sym h) ∙ own_is
 
-  pub own_no : n ≤ j → Nothing ≡ own_candidate book f m k
-  unfolding own_candidate candidate_at
-  own_no h =
-      let c : (own_run book).count ≡ n = rw (ne, le) refl in
-      rw (own_candidate, ← own_found, c, le-ltb j n h) refl
+  pub own_no : r ≡ None → None ≡ own_candidate book f m k
+  own_no h = ap own_place (sym h) ∙ own_is
 
 module _ (book : List ℕ) (R : Readable book) (k : ℕ) (O : OwnReady book k) (last first n : ℕ) (le : last ≡ last_record book) where
   pub last_in : last < records book
   unfolding last_record
   last_in = omega (arith, O.some)
 
-  pub own_run_ready : (ws : List ℕ) → length ws ≡ 16384 → AllIndexed book ws → first ≡ field book last 1 → n ≡ field book last 2
-      → ClauseRun book first n × (((first < 4096) × (n ≤ 1024) × (length ws ≡ 16384)) × Indexed book first n ws)
-  own_run_ready ws l I fe ne = rw (fe, ne, le) (O.run, ((O.first_small, O.count_small, l), I.own))
-
-  pub own_match_here : (f m i : ℕ) → OwnMatches book f m i → first ≡ field book last 1 → n ≡ field book last 2 → (i < n) × (head_matches book f m (field book (first + i) 1) ≡ true)
-  own_match_here f m i M fe ne = rw (fe, ne, le) (M.below, M.matches)
-
-pub from_first : (book : List ℕ) (f m first n j : ℕ) → j ≡ next_match book f m first 0 n → j ≡ next_match book f m first 0 (n - 0)
-from_first book f m first n j e = let z : n - 0 ≡ n = omega arith in rw z e
+pub from_first : (book : List ℕ) (f m first n : ℕ) (r : Option ℕ) → r ≡ found_below n (next_match book f m first 0 n) → r ≡ found_below n (next_match book f m first 0 (n - 0))
+from_first book f m first n r e = let z : n - 0 ≡ n = omega arith in rw z e
 
 no_candidates : (f m : ℕ) → candidates f m [] ≡ []
 unfolding candidates
@@ -72,7 +60,7 @@ decide i n = by (dec_lt i n)
 -- what the search in the own run says of the rest
 pub own_sought : (book : List ℕ) (F : Formed book) (ws : List ℕ) (made top f m q k : ℕ) (rest : List Force) → OwnReady book 0 → q ≡ 0
     → IsRest book ws made top q k rest → Sought book ws made top f m rest (own_candidate book f m k)
-unfolding own_candidate candidate_at
+unfolding own_candidate
 own_sought book F ws made top f m q k rest O e r =
     let a = own_at e r in
     let x = own_run book in
@@ -86,11 +74,11 @@ own_sought book F ws made top f m q k rest O e r =
         let y = some_here book F f m (own_run book) [] k l K h in
         let j = next_match book f m (own_run book).first k ((own_run book).count - k) in
         let z = rest_begins book F f m (own_run book) [] k l K j h in
-        rw (own_candidate, lt-ltb j (own_run book).count h)
-        (sought {q = 0} {i = j} {c = force_at book (own_run book).first 0 j} {after = rest_of book (own_run book) (suc j) []}
+        rw (own_candidate, ← found_yes (own_run book).count j h)
+        (sought {x = record { program = 0; clause = j }} {c = force_at book (own_run book).first 0 j} {after = rest_of book (own_run book) (suc j) []}
         (rw (← z) (own_rest {p = 0} {i = j} refl (omega arith) u), own_rest {p = 0} {i = suc j} refl (omega arith) u) y.0 y.1)
     go k l u K (inr h) =
-        rw (own_candidate, le-ltb (next_match book f m (own_run book).first k ((own_run book).count - k)) (own_run book).count h)
+        rw (own_candidate, ← found_no (own_run book).count (next_match book f m (own_run book).first k ((own_run book).count - k)) h)
         (no_more (none_here book F f m (own_run book) [] k l K h ∙ no_candidates f m))
 
 -- a candidate of the own run matches

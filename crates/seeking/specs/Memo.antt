@@ -3,11 +3,13 @@
 -- Entry e, below 1024: two words from 13568 + 2 e: the mark of a program; and in one word what the place leaves open of a head, and the word found, and 1.
 -- Entries below 512 are of first searches, the others of searches after a candidate.
 -- Words 13568 to 15615 are the memo's while the run searches. When an answer is written, its variables are numbered there, one word for each that is made: these words are cleared before and after.
-use Rattle.std.specs.Prelude.{◌≡◌, ◌⊎◌, List, ℕ, ◌+◌, ◌-◌, ◌*◌, ◌/◌, ◌%◌, ◌≤◌, ◌<◌, length, get_or, set}
+use Rattle.std.specs.Prelude.{◌≡◌, ◌⊎◌, List, ℕ, ◌+◌, ◌-◌, ◌*◌, ◌/◌, ◌%◌, ◌≤◌, ◌<◌, get_or, set}
 use Rattle.machine.specs.Machine.{Force}
 use Rattle.words.specs.Frame.{Keeps, clear_words}
 use Rattle.branch.specs.State.{IsRest}
 use Rattle.book.proofs.Accepted.{Formed}
+use Rattle.seeking.specs.declared.Half.{Half}
+use Rattle.seeking.specs.declared.Half.TheVariants.{First, After}
 use Rattle.seeking.specs.Seeking.{AllIndexed, Standing, SoughtPut}
 
 -- the mark of program p
@@ -18,7 +20,12 @@ mark_of ws p = get_or ws (8200 + 3 * p + 2) 0
 abbrev pub place_of : ℕ → ℕ → ℕ
 place_of mark f = (2 * (mark % 512) + f) % 512
 
--- where the memo has the answer: half 0 is of first searches
+-- the halves by number: half 0 is of first searches
+abbrev pub half_number : Half → ℕ
+half_number First = 0
+half_number After = 1
+
+-- where the memo has the answer
 unfoldable pub entry_at : ℕ → ℕ → ℕ → ℕ
 entry_at mark half f = 13568 + 1024 * half + 2 * place_of mark f
 
@@ -64,8 +71,6 @@ pub record Searchable (book ws : List ℕ) (made top p f m : ℕ) : Type 0 where
   pub formed : Formed book
   pub indexed : AllIndexed book ws
   pub standing : Standing book ws made top p 0
-  pub size : length ws ≡ 16384
   pub few : top ≤ 514
-  pub symbol : f < 65536
   pub count : m ≤ 8
   pub memo : (left : ℕ) × Memo book ws top left

@@ -1,30 +1,12 @@
-use native.Mathlib.Omega.{arith}
-use mathlib.Core.Path.{refl}
-use Rattle.book.specs.Records.{records, last_record}
-use Rattle.seeking.proofs.SeekOwn.{own_yes, own_no, last_in, own_run_ready, own_match_here}
-use borrow.Author.Rules.{rules}
+use mathlib.Core.Path.{◌∙◌}
+use Rattle.seeking.proofs.SeekOwn.{own_yes, own_no, last_in}
 use Rattle.seeking.proofs.own_after.Goals as goal
 
-pub overflow_sub-last : goal.overflow_sub-last
-unfolding records
-overflow_sub-last c = omega (arith, c.requires.own_ready.0.some)
+pub read-run-requires : goal.read-run-requires
+read-run-requires c = last_in _ c.args.book.now.readable _ c.requires.own_ready.0 _ 0 0 c.last-last.ensures
 
-pub field-first-requires : goal.field-first-requires
-unfolding records last_record
-field-first-requires c = let p = c.requires in record { r_bound = last_in _ c.args.book.now.readable _ p.own_ready.0 _ 0 0 refl; k_bound = search rules }
-
-pub field-n-requires : goal.field-n-requires
-unfolding records last_record
-field-n-requires c = let p = c.requires in record { r_bound = last_in _ c.args.book.now.readable _ p.own_ready.0 _ 0 0 refl; k_bound = search rules }
-
-pub match_after-j-requires : goal.match_after-j-requires
-unfolding records last_record
-match_after-j-requires c = let p = c.requires in let x = own_run_ready _ c.args.book.now.readable _ p.own_ready.0 _ _ _ refl _ p.own_ready.1 p.own_ready.2 c.field-first.ensures.0 c.field-n.ensures.0 in let y = own_match_here _ c.args.book.now.readable _ p.own_ready.0 _ _ _ refl _ _ _ p.own_matches c.field-first.ensures.0 c.field-n.ensures.0 in record { clause_run = x.0; i_lt_n = (y.0, x.1.0.0, x.1.0.1, x.1.0.2); indexed = x.1.1; f_bound = p.f_bound; i_value = y.1 }
-
-pub returns-then-j-n : goal.returns-then-j-n
-unfolding records last_record
-returns-then-j-n c = own_yes _ _ _ _ _ _ _ _ refl c.field-first.ensures.0 c.field-n.ensures.0 c.match_after-j.ensures c.if-j-n.true
+pub returns-in_err-clause : goal.returns-in_err-clause
+returns-in_err-clause c = c.from_residual.ensures ∙ own_no _ _ _ _ _ _ _ _ c.last-last.ensures c.read-run.ensures.0 c.read-run.ensures.1 c.match_after.ensures c.in_err-clause.was
 
 pub returns : goal.returns
-unfolding records last_record
-returns c = own_no _ _ _ _ _ _ _ _ refl c.field-first.ensures.0 c.field-n.ensures.0 c.match_after-j.ensures c.if-j-n.false
+returns c = own_yes _ _ _ _ _ _ _ _ c.last-last.ensures c.read-run.ensures.0 c.read-run.ensures.1 c.match_after.ensures _ c.in_ok-clause.was

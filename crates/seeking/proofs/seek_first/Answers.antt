@@ -1,14 +1,7 @@
 use native.Mathlib.Omega.{arith}
-use mathlib.Core.Path.{◌∙◌}
 use Rattle.words.proofs.StackLaws.{keeps_narrow}
 use Rattle.seeking.proofs.SeekChain.{all_same}
 use Rattle.seeking.proofs.seek_first.Goals as goal
 
-pub seek_programs-w-requires : goal.seek_programs-w-requires
-seek_programs-w-requires c = let p = c.requires in record { searchable = p.searchable }
-
 pub found-requires : goal.found-requires
-found-requires c = let p = c.requires in let S = p.searchable in let K = c.seek_programs-w.ensures.memo_stays.0.below in record { formed = (S.formed, p.own_ready, all_same _ p.own_ready (keeps_narrow (omega arith) (omega arith) K) (keeps_narrow (omega arith) (omega arith) K) S.indexed); ws_len = (K.size ∙ S.size, S.symbol, omega (arith, S.count)) }
-
-pub returns : goal.returns
-returns c = let F = c.seek_programs-w.ensures in record { sought = (λ rest z. c.found.ensures _ _ _ rest (F.finds _ _ rest z)); memo_stays = F.memo_stays }
+found-requires c = let p = c.requires in let S = p.searchable in let K = c.seek_programs-w.ensures.memo_stays.0.below in (S.formed, p.own_ready, all_same _ p.own_ready (keeps_narrow (omega arith) (omega arith) K) (keeps_narrow (omega arith) (omega arith) K) S.indexed)

@@ -19,7 +19,7 @@ use steps::{Regs, Stepped};
 use words::{Book, Words};
 
 // A turn of the run: it goes on, with the tally, the registers and the end of what is written; or it has ended.
-// The tally stands at the same place in both, as the units in `Stepped`.
+// An enum of its own: neither case is a failure, and the tally stands at the same place in both, as the units in `Stepped`.
 #[derive(Clone, Copy)]
 pub enum Turned {
     On(Tally, Regs, usize),
@@ -178,7 +178,11 @@ pub fn run(
         × (result.tally ≡ (run_of book.now.bytes.now budget wanted (length out.old)).tally) }
     ensures out_after { out.new ≡ filled_buffer (length out.old) (run_of book.now.bytes.now budget wanted (length out.old)).lines }
 {
-    let asked = Asked { unknowns, wanted, budget };
+    let asked = Asked {
+        unknowns,
+        wanted,
+        budget,
+    };
     let mut r = start;
     let mut y = tally;
     let mut end: usize = 0;

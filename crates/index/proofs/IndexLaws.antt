@@ -3,7 +3,7 @@ use mathlib.Core.Path.{◌≡◌, refl, sym, ◌∙◌, ap}
 use mathlib.Core.Logic.{◌⊎◌, inl, inr}
 use mathlib.Core.Bool.{true}
 use mathlib.Core.List.{List}
-use Prim.Native.Nat.{ℕ, zero, suc, ◌+◌, ◌-◌, ◌*◌, ◌/◌, ◌%◌, ◌≤◌, ◌<◌}
+use Prim.Native.Nat.{ℕ, ◌+◌, ◌-◌, ◌*◌, ◌/◌, ◌%◌, ◌≤◌, ◌<◌}
 use native.Mathlib.Omega.{arith}
 use native.Mathlib.Decide.{dec_lt, ℕ_discrete}
 use borrow.Author.Tests.{lt-ltb, le-ltb}
@@ -13,7 +13,7 @@ use Rattle.std.proofs.Common.{take, drop, ◌++◌, replicate, length-drop, leng
 use Rattle.std.proofs.lemmas.List.{length-take-le, length-replicate, get_or_append_left, get_or-append_right, get_or-take, get_or-replicate, get_or-drop}
 use Rattle.book.specs.Records.{field}
 use Rattle.words.specs.Frame.{Keeps}
-use Rattle.words.proofs.StackLaws.{keeps_refl, keeps_trans, keeps_narrow, keeps_set}
+use Rattle.words.proofs.StackLaws.{keeps_refl, keeps_trans, keeps_set}
 use Rattle.index.specs.Runs.{head_matches}
 use Rattle.index.specs.Index.{head_bucket, bucket_of, start_of, is_last, next_last, last_match, link_or, word_of, entry_of, Listed, Indexed, EmptyFrom, IndexedFrom}
 use Rattle.index.proofs.BucketLaws.{matching_bucket}
@@ -90,36 +90,6 @@ made_none book first n ws ws₁ E = record {
   below = keeps_refl 0 4096 ws₁;
   between = keeps_refl 5120 (5120 + n) ws₁;
   above = keeps_refl (5120 + n) 16384 ws₁;
-}
-
-pub made_from : (book : List ℕ) (first n i : ℕ) (ws ws₁ ws₂ : List ℕ) → i ≤ 0 → EmptyFrom n 1024 ws ws₁ → IndexedFrom book first n i ws₁ ws₂ → IndexedFrom book first n 0 ws ws₂
-made_from book first n zero ws ws₁ ws₂ z E I = record {
-  firsts = I.firsts;
-  nexts = I.nexts;
-  below = keeps_trans E.below I.below;
-  between = keeps_trans (keeps_narrow (omega arith) (omega arith) E.above) I.between;
-  above = keeps_trans (keeps_narrow (omega arith) (omega arith) E.above) I.above;
-}
-made_from book first n (suc i) ws ws₁ ws₂ z E I = absurd (omega arith)
-
--- the words, whatever they were before
-pub made_here : (book : List ℕ) (first n i : ℕ) (ws ws₁ : List ℕ) → IndexedFrom book first n i ws ws₁ → IndexedFrom book first n i ws₁ ws₁
-made_here book first n i ws ws₁ I = record {
-  firsts = I.firsts;
-  nexts = I.nexts;
-  below = keeps_refl 0 4096 ws₁;
-  between = keeps_refl 5120 (5120 + i) ws₁;
-  above = keeps_refl (5120 + n) 16384 ws₁;
-}
-
--- one more clause entered
-pub made_more : (book : List ℕ) (first n i : ℕ) (ws ws₁ ws₂ : List ℕ) → IndexedFrom book first n (i + 1) ws ws₁ → IndexedFrom book first n i ws₁ ws₂ → IndexedFrom book first n i ws ws₂
-made_more book first n i ws ws₁ ws₂ I J = record {
-  firsts = J.firsts;
-  nexts = J.nexts;
-  below = keeps_trans I.below J.below;
-  between = keeps_trans (keeps_narrow (omega arith) (omega arith) I.between) J.between;
-  above = keeps_trans I.above J.above;
 }
 
 -- the words of the index, read as such

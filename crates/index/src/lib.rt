@@ -150,7 +150,7 @@ pub fn first_match(book: &Book, ws: &Words, run: Run, head: Head) -> Option<u32>
     Some(ws[(5120 + z) as usize] / 2048 % 2048)
 }
 
-// The record of clause i of an indexed run. If it is the first in the list of the bucket of the symbol without arguments, its record is in the bucket's word, and no link is waited for.
+// The record of clause i of an indexed run. If it is the first in the list of the bucket of the symbol without arguments, its record is in the bucket's word, and no link is waited for. The symbol may be any number.
 pub fn clause_at(book: &Book, ws: &Words, run: Run, symbol: u32, i: u32) -> u32
     requires clause_run { ClauseRun book.now.bytes.now run.first run.count }
     requires i_lt_n { (i < run.count) × (run.first < 4096) × (run.count ≤ 1024) }

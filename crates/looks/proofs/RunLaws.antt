@@ -136,10 +136,10 @@ pub list_first : (book ws : List ℕ) (s : ToLook) → 0 < s.count → list_of b
 unfolding list_of past_of
 list_first book ws s h = run_next book s.base s.first s.count (waiting_of book ws s.depth) h
 
--- a run of no links
-pub run_empty : (book : List ℕ) (made : ℕ) → GoodRun book made 0 0 0
+-- where a run begins: no links
+pub run_begin : (book : List ℕ) (made b first m : ℕ) → GoodRun book made b first m → GoodRun book made b first 0
 unfolding texts_from fills
-run_empty book made = record { base = omega arith; most = omega arith; links = omega arith; low = omega arith; run = ((λ k l u. absurd (omega arith)), tt) }
+run_begin book made b first m g = record { base = g.base; most = omega arith; links = omega (arith, g.links); low = omega (arith, g.low); run = ((λ k l u. absurd (omega arith)), tt) }
 
 module _ (book : List ℕ) (made : ℕ) (mm : made ≤ 2048) (ws : List ℕ) (s : ToLook) (L : Listed book made ws s) where
   pub deep : s.depth < 256

@@ -14,7 +14,8 @@ use book::Kind;
 use machine::Limit;
 use words::{Book, Words};
 
-// How a part of a run ended: it came to its end, it failed, or it met a limit.
+// How a part of a run ended: it came to its end, it failed, or it met a limit. No Result, as document 01 wants it: to fail is no error of
+// the run, and only the last case holds anything.
 #[derive(Clone, Copy)]
 pub enum How {
     Done,

@@ -22,10 +22,10 @@ unfolding bucket_of
 head_small book first i = omega arith
 
 -- a part of n, in 64ths
-pub part_most : (x n : ℕ) → x < 64 → x * n ≤ 63 * n
+part_most : (x n : ℕ) → x < 64 → x * n ≤ 63 * n
 part_most x n h = mul-le-mul_right n (omega arith)
 
-pub part_below : (x n : ℕ) → x < 64 → 0 < n → x * n / 64 < n
+part_below : (x n : ℕ) → x < 64 → 0 < n → x * n / 64 < n
 part_below x n h p = omega (arith, part_most x n h)
 
 pub bucket_small : (book : List ℕ) (first n i : ℕ) → 0 < n → bucket_of (small_bucket n) book first i < n

@@ -1,6 +1,6 @@
 -- The first pair of the list taken: the list without it, and its argument pairs in its place.
 use mathlib.Core.Path.{◌≡◌, refl, sym, ◌∙◌, ap}
-use mathlib.Core.List.{List}
+use mathlib.Core.List.{List, []}
 use Prim.Native.Nat.{ℕ, ◌+◌, ◌-◌, ◌*◌, ◌/◌, ◌%◌, ◌≤◌, ◌<◌}
 use native.Mathlib.Omega.{arith}
 use lib.ListN.{length, get_or, set}
@@ -12,8 +12,8 @@ use Rattle.unifier.specs.declared.ToPair.{ToPair}
 use Rattle.unifier.specs.declared.PairStep.TheVariants.{Into, Past, TooMany}
 use Rattle.looks.specs.Runs.{run_word, first_of, count_of, GoodRun, TermAt}
 use Rattle.unifier.specs.PairRuns.{pair_words, waiting_pairs, pair_list_of, past_pairs, GoodTwo, Paired, PairPast, PairedInto, PairedInto.paired, PairedInto.alike, PairedInto.overfull}
-use Rattle.looks.proofs.RunLaws.{first_run, count_run, base_run, run_rest, term_run}
-use Rattle.unifier.proofs.PairRunLaws.{both_none, words_length, twos_most, twos_last, two_keeps, twos_push, twos_good, past_length}
+use Rattle.looks.proofs.RunLaws.{first_run, count_run, base_run, run_rest, run_begin, term_run}
+use Rattle.unifier.proofs.PairRunLaws.{both_none, words_length, twos_most, twos_last, two_keeps, twos_push, twos_good, past_length, pairs_none}
 
 -- symbol and argument count of two records, each two as one number
 module _ (book : List ℕ) (r q x y : ℕ) (X : (x ≡ field book r 1 + 65536 * field book r 2) × (field book r 1 < 65536)) (Y : (y ≡ field book q 1 + 65536 * field book q 2) × (field book q 1 < 65536)) where
@@ -30,8 +30,7 @@ module _ (book : List ℕ) (made : ℕ) (mm : made ≤ 2048) (ws : List ℕ) (s 
   pub deep : s.depth < 256
   deep = omega (arith, twos_most book made ws s.depth L.waits, L.total, L.most)
 
-  -- also where no run waits, and nothing is left
-  pub past_hand : (s.count ≤ 1 → s.depth ≡ 0)
+  pub past_hand : 1 < s.count
       → PairPast book made ws s (record { first = s.first + 1; base = s.base; other = s.other + 1; beside = s.beside; count = s.count - 1; depth = s.depth; waiting = s.waiting })
   unfolding pair_list_of past_pairs
   past_hand g = record {
@@ -41,7 +40,7 @@ module _ (book : List ℕ) (made : ℕ) (mm : made ≤ 2048) (ws : List ℕ) (s 
       waits = L.waits;
       total = L.total;
       most = omega (arith, L.most);
-      ends = λ e. g (omega arith);
+      ends = λ e. absurd (omega arith);
     };
     same = refl;
   }
@@ -49,6 +48,23 @@ module _ (book : List ℕ) (made : ℕ) (mm : made ≤ 2048) (ws : List ℕ) (s 
   past_waits : s.count ≤ 1 → past_pairs book ws s ≡ waiting_pairs book ws s.depth
   unfolding past_pairs
   past_waits g = both_none book s.base (s.first + 1) s.beside (s.other + 1) (s.count - 1) (waiting_pairs book ws s.depth) (omega arith)
+
+  pub past_none : s.count ≤ 1 → s.depth ≡ 0
+      → PairPast book made ws s (record { first = s.first; base = s.base; other = s.other; beside = s.beside; count = 0; depth = s.depth; waiting = s.waiting })
+  unfolding waiting_pairs
+  past_none g e =
+      let q : waiting_pairs book ws s.depth ≡ [] = rw e refl in
+      record {
+        listed = record {
+          left = run_begin book made s.base s.first s.count L.left;
+          right = run_begin book made s.beside s.other s.count L.right;
+          waits = L.waits;
+          total = L.total;
+          most = omega (arith, L.most);
+          ends = λ z. e;
+        };
+        same = pairs_none book ws (record { first = s.first; base = s.base; other = s.other; beside = s.beside; count = 0; depth = s.depth; waiting = s.waiting }) refl e ∙ sym (past_waits g ∙ q);
+      }
 
   module _ (d : 0 < s.depth) (x y : ℕ) (xe : x ≡ get_or ws (15616 + 2 * (s.depth - 1)) 0) (ye : y ≡ get_or ws (15616 + 2 * (s.depth - 1) + 1) 0) where
     pop_two : GoodTwo book made x y

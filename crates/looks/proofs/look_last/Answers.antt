@@ -1,9 +1,6 @@
 use native.Mathlib.Omega.{arith}
-use Rattle.looks.proofs.RunLaws.{term_run, into_over, into_hand}
+use Rattle.looks.proofs.RunLaws.{into_over, into_hand}
 use Rattle.looks.proofs.look_last.Goals as goal
-
-pub overflow_add-s : goal.overflow_add-s
-overflow_add-s c = let p = c.requires in omega (arith, p.listed.0.most, p.term_at.1.many, (term_run _ c.args.book.now.readable _ _ _ p.term_at.0).most)
 
 pub returns-then-s-k-gt256 : goal.returns-then-s-k-gt256
 returns-then-s-k-gt256 c = let p = c.requires in into_over _ _ p.slots.room _ _ p.listed.0 _ _ _ p.term_at.1.many (omega (arith, c.if-s-k-gt256.true, p.listed.1))

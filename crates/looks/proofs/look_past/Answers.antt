@@ -3,9 +3,6 @@ use mathlib.Core.Path.{refl}
 use Rattle.looks.proofs.RunLaws.{deep, past_hand, past_none, pop_most, past_pop}
 use Rattle.looks.proofs.look_past.Goals as goal
 
-pub overflow_add-result : goal.overflow_add-result
-overflow_add-result c = omega (arith, c.requires.listed.hand.low, c.if-s-gt1.true)
-
 pub returns-then-s-gt1 : goal.returns-then-s-gt1
 returns-then-s-gt1 c = let p = c.requires in past_hand _ _ p.slots.room _ _ p.listed c.if-s-gt1.true
 

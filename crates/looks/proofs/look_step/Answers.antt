@@ -4,7 +4,6 @@ use Rattle.words.proofs.StackLaws.{keeps_refl}
 use Rattle.looks.proofs.RunLaws.{run_here}
 use Rattle.looks.proofs.ValueLaws.{known_open, known_term, reads_same, text_here, value_term, var_below, value_open, value_word}
 use Rattle.looks.proofs.LookLaws.{step_into, step_found, step_other}
-use borrow.Author.Rules.{rules}
 use Rattle.looks.proofs.look_step.Goals as goal
 
 pub is-requires : goal.is-requires
@@ -15,9 +14,6 @@ look_into-requires c = let p = c.requires in record { slots = p.slots; listed = 
 
 pub returns-then-not-is : goal.returns-then-not-is
 returns-then-not-is c = let p = c.requires in record { keeps = c.look_into.ensures.keeps; look_stepped = step_into _ c.args.book.now.readable _ _ _ _ p.listed.some p.v_nonzero.0 _ _ (known_term (value_term _ c.args.book.now.readable _ _ p.slots _ _ (run_here _ _ p.slots.room _ _ _ p.listed.some p.listed.hand) _ c.field-t.ensures.0 (eqb-false _ _ (sym c.is.ensures ∙ c.if-not-is.true))) _ _ refl) _ _ c.look_into.ensures.looked_into }
-
-pub field-o-requires : goal.field-o-requires
-field-o-requires c = let p = c.requires in record { r_bound = (text_here _ c.args.book.now.readable _ _ p.slots _ _ (run_here _ _ p.slots.room _ _ _ p.listed.some p.listed.hand) _ c.field-t.ensures.0).0.0; k_bound = search rules }
 
 pub read_variable-w-requires : goal.read_variable-w-requires
 read_variable-w-requires c = let p = c.requires in record { slots = p.slots; v_lt_made = var_below _ c.args.book.now.readable _ _ p.slots _ _ (run_here _ _ p.slots.room _ _ _ p.listed.some p.listed.hand) _ c.field-t.ensures.0 (eqb-true _ _ (sym c.is.ensures ∙ c.if-not-is.false)) _ c.field-o.ensures.0 }

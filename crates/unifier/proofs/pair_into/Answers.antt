@@ -25,38 +25,8 @@ overflow_mul-at c = let p = c.requires in omega (arith, deep _ _ p.slots.room _ 
 pub overflow_add-at : goal.overflow_add-at
 overflow_add-at c = let p = c.requires in omega (arith, deep _ _ p.slots.room _ _ p.paired p.count_nonzero)
 
-pub overflow_add-ws : goal.overflow_add-ws
-overflow_add-ws c = let p = c.requires in omega (arith, p.paired.left.low, p.paired.left.base, p.paired.left.most, p.count_nonzero)
-
-pub overflow_mul-ws : goal.overflow_mul-ws
-overflow_mul-ws c = let p = c.requires in omega (arith, p.paired.left.low, p.paired.left.base, p.paired.left.most, p.count_nonzero)
-
-pub overflow_sub-ws : goal.overflow_sub-ws
-overflow_sub-ws c = let p = c.requires in omega (arith, p.paired.left.low, p.paired.left.base, p.paired.left.most, p.count_nonzero)
-
-pub overflow_add-ws-2 : goal.overflow_add-ws-2
-overflow_add-ws-2 c = let p = c.requires in omega (arith, p.paired.left.low, p.paired.left.base, p.paired.left.most, p.count_nonzero)
-
-pub overflow_add-ws-3 : goal.overflow_add-ws-3
-overflow_add-ws-3 c = let p = c.requires in omega (arith, p.paired.left.low, p.paired.left.base, p.paired.left.most, p.count_nonzero)
-
 pub bounds-ws-at : goal.bounds-ws-at
 bounds-ws-at c = let p = c.requires in omega (arith, deep _ _ p.slots.room _ _ p.paired p.count_nonzero)
-
-pub overflow_add-ws-4 : goal.overflow_add-ws-4
-overflow_add-ws-4 c = let p = c.requires in omega (arith, p.paired.right.low, p.paired.right.base, p.paired.right.most, p.count_nonzero)
-
-pub overflow_mul-ws-3 : goal.overflow_mul-ws-3
-overflow_mul-ws-3 c = let p = c.requires in omega (arith, p.paired.right.low, p.paired.right.base, p.paired.right.most, p.count_nonzero)
-
-pub overflow_sub-ws-2 : goal.overflow_sub-ws-2
-overflow_sub-ws-2 c = let p = c.requires in omega (arith, p.paired.right.low, p.paired.right.base, p.paired.right.most, p.count_nonzero)
-
-pub overflow_add-ws-5 : goal.overflow_add-ws-5
-overflow_add-ws-5 c = let p = c.requires in omega (arith, p.paired.right.low, p.paired.right.base, p.paired.right.most, p.count_nonzero)
-
-pub overflow_add-ws-6 : goal.overflow_add-ws-6
-overflow_add-ws-6 c = let p = c.requires in omega (arith, p.paired.right.low, p.paired.right.base, p.paired.right.most, p.count_nonzero)
 
 pub bounds-ws-at-2 : goal.bounds-ws-at-2
 bounds-ws-at-2 c = let p = c.requires in omega (arith, deep _ _ p.slots.room _ _ p.paired p.count_nonzero)

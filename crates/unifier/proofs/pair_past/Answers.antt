@@ -1,11 +1,13 @@
 use native.Mathlib.Omega.{arith}
 use mathlib.Core.Path.{refl}
-use Rattle.unifier.proofs.PairPlaces.{deep, past_hand, pop_most, past_pop}
-use Rattle.unifier.proofs.pair_past.Goals.{then-s-gt1-via-then-s-gt1, then-s-gt1-via-else-s-gt1+then-s-eq0}
+use Rattle.unifier.proofs.PairPlaces.{deep, past_hand, past_none, pop_most, past_pop}
 use Rattle.unifier.proofs.pair_past.Goals as goal
 
 pub returns-then-s-gt1 : goal.returns-then-s-gt1
-returns-then-s-gt1 c = let p = c.requires in past_hand _ _ p.slots.room _ _ p.paired p.count_nonzero (λ l. elim c.then-s-gt1.branch [ then-s-gt1-via-then-s-gt1 w ↦ absurd (omega (arith, w.if-s-gt1.true)) | then-s-gt1-via-else-s-gt1+then-s-eq0 w ↦ w.if-s-eq0.true ])
+returns-then-s-gt1 c = let p = c.requires in past_hand _ _ p.slots.room _ _ p.paired p.count_nonzero c.if-s-gt1.true
+
+pub returns-then-s-eq0 : goal.returns-then-s-eq0
+returns-then-s-eq0 c = let p = c.requires in past_none _ _ p.slots.room _ _ p.paired p.count_nonzero c.if-s-gt1.false c.if-s-eq0.true
 
 pub overflow_mul-at : goal.overflow_mul-at
 overflow_mul-at c = let p = c.requires in omega (arith, deep _ _ p.slots.room _ _ p.paired p.count_nonzero)

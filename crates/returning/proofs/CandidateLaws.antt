@@ -39,7 +39,7 @@ not_longer z l e = let h : length l ≡ suc (length l) = ap length e in omega ar
 
 module _ (book : List ℕ) (R : Readable book) (A : Accepted book) (ws : List ℕ) (k : ℕ) (x : Back) (threads : List Thread) (X : ToClause book ws k x threads) where
   pub leads : Leads book ws x
-  leads = record { f = X.f; after = X.after; clause = X.with.clause; few = X.again.sound.programs_most; size = X.again.sound.slots.size }
+  leads = record { f = X.f; after = X.after; clause = X.with.clause; few = X.again.sound.programs_most }
 
   -- its record, and where the variables of its suppose goal's holder begin
   abbrev pub clause_now : ℕ

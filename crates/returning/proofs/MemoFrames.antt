@@ -1,6 +1,7 @@
 -- Nothing but the memo differs: what the search along the programs leaves as it was.
 use mathlib.Core.Path.{◌≡◌}
 use mathlib.Core.List.{List}
+use Rattle.std.specs.Prelude.{Option}
 use Prim.Native.Nat.{ℕ, ◌+◌, ◌-◌, ◌*◌, ◌≤◌}
 use native.Mathlib.Omega.{arith}
 use Rattle.machine.specs.declared.Ending.{Ending}
@@ -9,7 +10,7 @@ use Rattle.words.specs.Frame.{Keeps}
 use Rattle.words.proofs.StackLaws.{keeps_narrow, store_same}
 use Rattle.seeking.proofs.SeekChain.{all_same}
 use Rattle.branch.specs.declared.Back.{Back}
-use Rattle.seeking.specs.declared.Candidate.{Candidate}
+use Rattle.seeking.specs.declared.Place.{Place}
 use Rattle.branch.specs.State.{OwnReady}
 use Rattle.seeking.specs.Seeking.{AllIndexed}
 use Rattle.seeking.specs.Memo.{MemoOnly}
@@ -72,7 +73,7 @@ module _ {book ws ws' : List ℕ} (O : MemoOnly ws ws') where
       record { some = F.some; read = record { walked = rw s F.read.walked; good = F.read.good; unbound = λ l. absurd (omega (arith, F.large)) }; large = F.large }
 
   -- the candidate after the next one is the same, whichever of the two the search has looked at
-  pub next_only : (x : Back) {o : Candidate} → x.programs ≤ 514 → NextIs book ws x o → NextIs book ws' x o
+  pub next_only : (x : Back) {o : Option Place} → x.programs ≤ 514 → NextIs book ws x o → NextIs book ws' x o
   next_only x h N rest r =
       let K : Keeps 8200 (8200 + 3 * x.programs) ws ws' = keeps_narrow (omega arith) (omega arith) O.below in
       sought_keeps K (N rest (rest_keeps (keeps_back K) r))

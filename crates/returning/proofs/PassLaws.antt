@@ -1,11 +1,12 @@
 -- Passing over candidates, as the code does it.
 use mathlib.Core.Path.{◌≡◌, refl, sym, ◌∙◌, ap}
-use mathlib.Core.Bool.{Bool, true, false, not}
+use mathlib.Core.Bool.{Bool, true, false, not, ◌&&◌}
 use mathlib.Core.List.{List, ◌∷◌, ◌++◌}
+use Rattle.std.specs.Prelude.{Option, Some, None, IfSome, IsSomeAnd}
+use Rattle.std.specs.Option.{ForSome}
 use Prim.Native.Nat.{ℕ, suc, ◌+◌, ◌-◌, ◌*◌, ◌/◌, ◌%◌, ◌≤◌, ◌<◌}
 use native.Mathlib.Omega.{arith}
 use native.Mathlib.Nat.{sub-zero}
-use borrow.Author.Tests.{eq-eqb, ne_eqb}
 use lib.Dec.{eqb}
 use Rattle.book.specs.Records.{field, records}
 use Rattle.book.proofs.Accepted.{Accepted}
@@ -17,11 +18,10 @@ use Rattle.machine.specs.Answers.{Line}
 use Rattle.machine.specs.Run.{Request}
 use Rattle.words.specs.Words.{word_for, sym_w, rec_of}
 use Rattle.words.specs.Readable.{Readable, TextRec}
-use Rattle.words.specs.Good.{Good, Slots, ReadThrough}
+use Rattle.words.specs.Good.{Good, ReadThrough}
 use Rattle.words.proofs.SlotLaws.{good_term}
 use Rattle.branch.specs.declared.Back.{Back}
-use Rattle.seeking.specs.declared.Candidate.{Candidate}
-use Rattle.seeking.specs.declared.Candidate.TheVariants.{At, Nothing}
+use Rattle.seeking.specs.declared.Place.{Place}
 use Rattle.seeking.specs.Seeking.{Sought, Sought.sought, Sought.no_more}
 use Rattle.seeking.specs.Memo.{Memo, MemoStays}
 use Rattle.seeking.proofs.MemoLaws.{memo_less, stays_none, stays_trans}
@@ -35,47 +35,28 @@ use Rattle.steps.proofs.LeaveLaws.{leaves_none, leaves_trans, leaves_only}
 use Rattle.returning.specs.declared.Passed.{Passed}
 use Rattle.returning.specs.declared.Passed.TheVariants.{Next, Through}
 use Rattle.returning.specs.Returns.{atom_of, ToClause}
-use Rattle.returning.specs.Reentry.{place_of, moved}
-use Rattle.returning.specs.Passing.{first_argument, FirstIs, Clashes, Passes, NextIs, OnePass, OnePass.moves, OnePass.gone, PassGives, PassGives.comes, PassGives.ends, regs_gone, later_by}
+use Rattle.returning.specs.Reentry.{place_of, moved, regs_kept}
+use Rattle.returning.specs.Passing.{first_argument, FirstIs, Clashes, Passes, NextIs, OnePass, OnePass.moves, OnePass.gone, PassGives, PassGives.comes, PassGives.ends, later_by}
 use Rattle.returning.proofs.RenewLaws.{atom_record, atom_base, here}
 use Rattle.returning.proofs.CandidateLaws.{clause_now, can_enter, no_budget}
 use Rattle.returning.proofs.ClashLaws.{first_ready, first_good, pass_units}
 use Rattle.returning.proofs.MemoFrames.{clause_only, first_only}
 
 -- THE TEST OF A CLAUSE
-module _ (book : List ℕ) (made w c h l u r : ℕ) (he : h ≡ field book c 4) (le : l ≡ field book h 3) (ue : u ≡ field book l 1) (re : r ≡ w / 4096 - 1) where
+is_false : (z : Bool) → not z ≡ true → z ≡ false
+is_false false e = refl
+is_false true e = let z : ◌≡◌ {A = ℕ} 0 1 = cc in absurd (omega arith)
+
+module _ (book : List ℕ) (made w c h l u : ℕ) (he : h ≡ field book c 4) (le : l ≡ field book h 3) (ue : u ≡ field book l 1) where
   u_first : u ≡ first_argument book (field book c 4)
   u_first = ue ∙ rw (le, he) refl
 
-  abbrev here_u : ℕ
-  here_u = first_argument book (field book c 4)
-
-  module _ (fits : made + field book c 1 ≤ 2048) (k : ℕ) (ke : k ≡ field book u 0) (kind : k ≡ 2) where
-    is_a_term : field book here_u 0 ≡ 2
-    is_a_term = rw (← u_first) (sym ke ∙ kind)
-
-    pub clash_symbol : (f g : ℕ) → f ≡ field book r 1 → g ≡ field book u 1 → (f ≡ g → ⊥) → Clashes book made w c
-    unfolding sym_w rec_of
-    clash_symbol f g fe ge d =
-        let x : f ≡ sym_w book w = fe ∙ rw re refl in
-        let y : g ≡ field book here_u 1 = ge ∙ rw u_first refl in
-        record { room = fits; term = is_a_term; differ = rw (← x, ← y, ne_eqb f g d) refl }
-
-    pub clash_count : (f g a b : ℕ) → f ≡ field book r 1 → g ≡ field book u 1 → f ≡ g → a ≡ field book r 2 → b ≡ field book u 2 → not (eqb a b) ≡ true → Clashes book made w c
-    unfolding sym_w rec_of
-    clash_count f g a b fe ge d ae be t =
-        let x : f ≡ sym_w book w = fe ∙ rw re refl in
-        let y : g ≡ field book here_u 1 = ge ∙ rw u_first refl in
-        let p : a ≡ field book (rec_of w) 2 = ae ∙ rw re refl in
-        let q : b ≡ field book here_u 2 = be ∙ rw u_first refl in
-        record { room = fits; term = is_a_term; differ = rw (← x, ← y, ← p, ← q, eq-eqb f g d) (is_false (eqb a b) t) }
-      where
-        is_false : (z : Bool) → not z ≡ true → z ≡ false
-        is_false false e = refl
-        is_false true e = let z : ◌≡◌ {A = ℕ} 0 1 = cc in absurd (omega arith)
-
-pub no_clash : {T : Type 0} (b : Bool) → b ≡ false → b ≡ true → T
-no_clash b e f = let z : ◌≡◌ {A = ℕ} 0 1 = cc in absurd (omega arith)
+  -- the heads of the two terms differ
+  pub clash_heads : made + field book c 1 ≤ 2048 → field book u 0 ≡ 2 → (f g a b : ℕ) → f ≡ field book (w / 4096 - 1) 1 → g ≡ field book u 1 → a ≡ field book (w / 4096 - 1) 2 → b ≡ field book u 2
+      → not (eqb f g && eqb a b) ≡ true → Clashes book made w c
+  unfolding sym_w rec_of
+  clash_heads fits kind f g a b fe ge ae be t =
+      record { room = fits; term = rw u_first at kind; differ = rw (fe, ge, ae, be, u_first) at (is_false (eqb f g && eqb a b) t) }
 
 module _ (book : List ℕ) (R : Readable book) (A : Accepted book) (ws : List ℕ) (k : ℕ) (x : Back) (threads : List Thread) (X : ToClause book ws k x threads) where
   -- THE FIRST ARGUMENT
@@ -90,15 +71,11 @@ module _ (book : List ℕ) (R : Readable book) (A : Accepted book) (ws : List �
         omega (arith, R.run X.a h, X.with.here.inside, some_here)
 
     pub first_text : (first t : ℕ) → first ≡ field book (x.atom / 4096 - 1) 3 → t ≡ field book first 1
-        → (TextRec book t × (x.atom % 4096 < 4096)) × (Slots book x.made ws × Good book x.made (word_for book (x.atom % 4096) t))
+        → TextRec book t × Good book x.made (word_for book (x.atom % 4096) t)
     first_text first t e f =
         let z : t ≡ first_argument book X.a = f ∙ ap (λ (a : ℕ). field book a 1) e ∙ ap (λ (a : ℕ). first_argument book a) (atom_record book ws k x threads X) in
         let y = atom_base book ws k x threads X in
-        rw (z, y) (((first_ready book R A ws k x threads X some_here).0, X.with.base), (X.again.sound.slots, first_good book R A ws k x threads X some_here))
-
-    pub first_is : (first t w₀ w : ℕ) → first ≡ field book (x.atom / 4096 - 1) 3 → t ≡ field book first 1 → w₀ ≡ word_for book (x.atom % 4096) t → ReadThrough book x.made ws w₀ w → 4096 ≤ w
-        → FirstIs book ws x.made (x.atom / 4096 - 1) (x.atom % 4096) w
-    first_is first t w₀ w e f g r l = record { some = omega arith; read = rw (g, f, e) at r; large = l }
+        rw (z, y) ((first_ready book R A ws k x threads X some_here).0, first_good book R A ws k x threads X some_here)
 
   -- ONE CANDIDATE
   module _ (w : ℕ) (F : FirstIs book ws x.made (x.atom / 4096 - 1) (x.atom % 4096) w) where
@@ -127,13 +104,13 @@ module _ (book : List ℕ) (R : Readable book) (A : Accepted book) (ws : List �
         runs : (q : Request) (n : ℕ) (y : Tally) (ls : List Line) → run_on q (suc (suc n)) y ls threads ≡ run_on q n (spent_units 2 y) ls left_over
         runs = pass_units book R A ws k x threads X w first_here (rw ce at C)
 
-        pub one_pass : (o : Candidate) → NextIs book ws x o → OnePass book ws k x threads o
+        pub one_pass : (o : Option Place) → NextIs book ws x o → OnePass book ws k x threads o
         unfolding try_all
         one_pass o s = go o (here book ws k x threads X o s)
           where
-            go : (o : Candidate) → Sought book ws x.made x.programs (field book X.a 1) (field book X.a 2) X.after o → OnePass book ws k x threads o
-            go (At q i) (sought {c = g} {after = after} r y z) =
-                moves {q = q} {i = i} {threads' = entering X.b (atom_of book X.a X.e X.program) g (candidates (field book X.a 1) (field book X.a 2) after) ∷ X.ts}
+            go : (o : Option Place) → Sought book ws x.made x.programs (field book X.a 1) (field book X.a 2) X.after o → OnePass book ws k x threads o
+            go (Some p) (sought {c = g} {after = after} r y z) =
+                moves {p = p} {threads' = entering X.b (atom_of book X.a X.e X.program) g (candidates (field book X.a 1) (field book X.a 2) after) ∷ X.ts}
                 (record {
                   b = X.b;
                   ts = X.ts;
@@ -158,14 +135,14 @@ module _ (book : List ℕ) (R : Readable book) (A : Accepted book) (ws : List �
                   is = refl;
                 })
                 (λ p n t ls. runs p n t ls ∙ ap (λ (cs : List Force). run_on p n (spent_units 2 t) ls (try_all X.b (atom_of book X.a X.e X.program) cs ++ X.ts)) z)
-            go Nothing (no_more z) = gone {b = X.b} {ts = X.ts} X.again (λ p n t ls. runs p n t ls ∙ ap (λ (cs : List Force). run_on p n (spent_units 2 t) ls (try_all X.b (atom_of book X.a X.e X.program) cs ++ X.ts)) z)
+            go None (no_more z) = gone {b = X.b} {ts = X.ts} X.again (λ p n t ls. runs p n t ls ∙ ap (λ (cs : List Force). run_on p n (spent_units 2 t) ls (try_all X.b (atom_of book X.a X.e X.program) cs ++ X.ts)) z)
 
 -- THE LOOP, from workspace ws₀
-pub record PassInv (book ws₀ ws : List ℕ) (k : ℕ) (x : Back) (left w : ℕ) (y : Back) (used : ℕ) : Type 0 where
+pub record PassInv (book ws₀ ws : List ℕ) (k : ℕ) (x : Back) (left : ℕ) (term : Option ℕ) (y : Back) (used : ℕ) : Type 0 where
   pub within : used ≤ left
   pub programs : y.programs ≡ x.programs
   pub memo : MemoStays book x.programs ws₀ ws
-  pub first : 4096 ≤ w → FirstIs book ws y.made (y.atom / 4096 - 1) (y.atom % 4096) w
+  pub first : ForSome term (FirstIs book ws y.made (y.atom / 4096 - 1) (y.atom % 4096))
   pub some : (threads : List Thread) × ToClause book ws k y threads
   pub passes : (threads : List Thread) → ToClause book ws₀ k x threads → (threads' : List Thread) × ToClause book ws k y threads' × Passes left used threads threads'
 
@@ -182,54 +159,69 @@ two_more_lem left used ts us vs h P u q y ls =
     let a : left - used ≡ suc (suc (left - (used + 2))) = omega arith in
     P q y ls ∙ ap (λ (n : ℕ). run_on q n (spent_units used y) ls us) a ∙ u q (left - (used + 2)) (spent_units used y) ls ∙ ap (λ (t : Tally). run_on q (left - (used + 2)) t ls vs) (spent_two used y)
 
-pub inv_start : {book ws : List ℕ} {k : ℕ} {x : Back} {left w : ℕ} → (4096 ≤ w → FirstIs book ws x.made (x.atom / 4096 - 1) (x.atom % 4096) w) → (threads : List Thread) × ToClause book ws k x threads
-    → PassInv book ws ws k x left w x 0
-inv_start {book} {ws} {x = x} {left = left} F S = record { within = omega arith; programs = refl; memo = stays_none book x.programs ws; first = F; some = S; passes = λ ts X. (ts, X, pass_none left ts) }
+if_some : (P : ℕ → Type 0) (o : Option ℕ) → IfSome o P → ForSome o P
+if_some P None h w e = let z : ◌≡◌ {A = ℕ} 0 1 = cc in absurd (omega arith)
+if_some P (Some v) h w e = let z : v ≡ w = cc in rw z at h
 
-module _ {book ws₀ ws : List ℕ} {k : ℕ} {x : Back} {left w : ℕ} where
+pub inv_start : {book ws : List ℕ} {k : ℕ} {x : Back} {left : ℕ} (term : Option ℕ) → IfSome term (FirstIs book ws x.made (x.atom / 4096 - 1) (x.atom % 4096)) → (threads : List Thread) × ToClause book ws k x threads
+    → PassInv book ws ws k x left term x 0
+inv_start {book} {ws} {x = x} {left = left} term F S = record {
+  within = omega arith;
+  programs = refl;
+  memo = stays_none book x.programs ws;
+  first = if_some _ term F;
+  some = S;
+  passes = λ ts X. (ts, X, pass_none left ts);
+}
+
+module _ {book ws₀ ws : List ℕ} {k : ℕ} {x : Back} {left : ℕ} {term : Option ℕ} where
   -- the memo where the search is asked
-  pub inv_memo : (y : Back) (used n : ℕ) → PassInv book ws₀ ws k x left w y used → Memo book ws₀ x.programs n → (m : ℕ) × Memo book ws y.programs m
+  pub inv_memo : (y : Back) (used n : ℕ) → PassInv book ws₀ ws k x left term y used → Memo book ws₀ x.programs n → (m : ℕ) × Memo book ws y.programs m
   inv_memo y used n I M = (n, rw I.programs (I.memo.1 n M))
 
   -- the search has written the memo
-  pub inv_sought : {ws' : List ℕ} (y : Back) (used : ℕ) → PassInv book ws₀ ws k x left w y used → MemoStays book y.programs ws ws' → PassInv book ws₀ ws' k x left w y used
+  pub inv_sought : {ws' : List ℕ} (y : Back) (used : ℕ) → PassInv book ws₀ ws k x left term y used → MemoStays book y.programs ws ws' → PassInv book ws₀ ws' k x left term y used
   inv_sought y used I M = record {
     within = I.within;
     programs = I.programs;
     memo = stays_trans I.memo (rw I.programs at M);
-    first = λ l. first_only M.0 I.some.1.again.sound.slots.room (I.first l);
+    first = λ w e. first_only M.0 I.some.1.again.sound.slots.room (I.first w e);
     some = (I.some.0, clause_only M.0 I.some.1);
     passes = λ ts X. let p = I.passes ts X in (p.0, clause_only M.0 p.1, p.2);
   }
 
-  pub inv_next : (y : Back) (used : ℕ) (o : Candidate) → PassInv book ws₀ ws k x left w y used → NextIs book ws y o → (threads : List Thread) → ToClause book ws₀ k x threads → PassGives book ws k x left threads (Next y o used)
+  pub inv_next : (y : Back) (used : ℕ) (o : Option Place) → PassInv book ws₀ ws k x left term y used → NextIs book ws y o → (threads : List Thread) → ToClause book ws₀ k x threads → PassGives book ws k x left threads (Next y o used)
   inv_next y used o I N ts X = let p = I.passes ts X in comes {threads' = p.0} I.programs I.within N p.1 p.2
 
   -- the candidate y clashes, and the one after it is o
-  module _ (R : Readable book) (A : Accepted book) (y : Back) (used : ℕ) (I : PassInv book ws₀ ws k x left w y used) (h : 1 < left - used) (c : ℕ) (ce : c ≡ (place_of book ws y.node y.index).clause)
-      (l : 4096 ≤ w) (C : Clashes book y.made w c) (o : Candidate) (N : NextIs book ws y o) where
+  module _ (R : Readable book) (A : Accepted book) (y : Back) (used : ℕ) (I : PassInv book ws₀ ws k x left term y used) (h : 1 < left - used) (c : ℕ) (ce : c ≡ (place_of book ws y.node y.index).clause)
+      (C : IsSomeAnd term (λ w. Clashes book y.made w c)) (o : Option Place) (N : NextIs book ws y o) where
     one : (ts : List Thread) → ToClause book ws k y ts → OnePass book ws k y ts o
-    one ts X = one_pass book R A ws k y ts X w (I.first l) c ce C.room C o N
+    one ts X = by term I.first C
+      where
+        by : (t : Option ℕ) → ForSome t (FirstIs book ws y.made (y.atom / 4096 - 1) (y.atom % 4096)) → IsSomeAnd t (λ w. Clashes book y.made w c) → OnePass book ws k y ts o
+        by None F D = absurd D
+        by (Some w) F D = one_pass book R A ws k y ts X w (F w refl) c ce D.room D o N
 
-    pub inv_more : (q i : ℕ) (y' : Back) → o ≡ At q i → y' ≡ moved y q i → PassInv book ws₀ ws k x left w y' (used + 2)
-    inv_more q i y' e d = rw d (record {
+    pub inv_more : (p : Place) (y' : Back) → o ≡ Some p → y' ≡ moved y p.program p.clause → PassInv book ws₀ ws k x left term y' (used + 2)
+    inv_more p y' e d = rw d (record {
       within = omega (arith, I.within);
       programs = I.programs;
       memo = I.memo;
       first = I.first;
       some = let s = onto I.some.0 (one I.some.0 I.some.1) e in (s.0, s.1);
-      passes = λ ts X. let p = I.passes ts X in let s = onto p.0 (one p.0 p.1) e in (s.0, s.1, two_more_lem left used ts p.0 s.0 h p.2 s.2);
+      passes = λ ts X. let P = I.passes ts X in let s = onto P.0 (one P.0 P.1) e in (s.0, s.1, two_more_lem left used ts P.0 s.0 h P.2 s.2);
     })
       where
-        onto : {o : Candidate} (ts : List Thread) → OnePass book ws k y ts o → o ≡ At q i
-            → (us : List Thread) × ToClause book ws k (moved y q i) us × ((r : Request) (n : ℕ) (t : Tally) (ls : List Line) → run_on r (suc (suc n)) t ls ts ≡ run_on r n (spent_units 2 t) ls us)
-        onto ts (moves {q = a} {i = b} {threads' = us} Y u) e = let v : a ≡ q = cc in let z : b ≡ i = cc in (us, rw (v, z) at Y, u)
+        onto : {o : Option Place} (ts : List Thread) → OnePass book ws k y ts o → o ≡ Some p
+            → (us : List Thread) × ToClause book ws k (moved y p.program p.clause) us × ((r : Request) (n : ℕ) (t : Tally) (ls : List Line) → run_on r (suc (suc n)) t ls ts ≡ run_on r n (spent_units 2 t) ls us)
+        onto ts (moves {p = a} {threads' = us} Y u) e = let v : a ≡ p = cc in (us, rw v at Y, u)
         onto ts (gone G u) e = let z : ◌≡◌ {A = ℕ} 0 1 = cc in absurd (omega arith)
 
-    pub inv_gone : o ≡ Nothing → (threads : List Thread) → ToClause book ws₀ k x threads → PassGives book ws k x left threads (Through y (used + 2))
+    pub inv_gone : o ≡ None → (threads : List Thread) → ToClause book ws₀ k x threads → PassGives book ws k x left threads (Through y (used + 2))
     inv_gone e ts X = let p = I.passes ts X in go (one p.0 p.1) e p.2
       where
-        go : {o : Candidate} {us : List Thread} → OnePass book ws k y us o → o ≡ Nothing → Passes left used ts us → PassGives book ws k x left ts (Through y (used + 2))
+        go : {o : Option Place} {us : List Thread} → OnePass book ws k y us o → o ≡ None → Passes left used ts us → PassGives book ws k x left ts (Through y (used + 2))
         go {us = us} (gone {b = b} {ts = vs} G u) e Q = ends {y = y} {used = used + 2} {b = b} {ts = vs} I.programs (omega arith) (omega (arith, I.within)) G (two_more_lem left used ts us vs h Q u)
         go (moves Y u) e Q = let z : ◌≡◌ {A = ℕ} 0 1 = cc in absurd (omega arith)
 
@@ -250,7 +242,7 @@ after_pass {left = left} {used = used} {threads' = us} h f P (steps_end {e = x} 
     steps_end {e = x} {used = used + n} (omega arith) b
     (λ q y ls. P q y ls ∙ e q (spent_units used y) ls ∙ ap (λ (t : Tally). record { ending = x; tally = t; lines = ls }) (spent_both used n y))
 
-came_to : {book ws : List ℕ} {k : ℕ} {x : Back} {left : ℕ} {threads : List Thread} {p : Passed} (y : Back) (o : Candidate) (used : ℕ) → PassGives book ws k x left threads p → p ≡ Next y o used
+came_to : {book ws : List ℕ} {k : ℕ} {x : Back} {left : ℕ} {threads : List Thread} {p : Passed} (y : Back) (o : Option Place) (used : ℕ) → PassGives book ws k x left threads p → p ≡ Next y o used
     → (used ≤ left) × ((threads' : List Thread) × ToClause book ws k y threads' × Passes left used threads threads') × NextIs book ws y o × (y.programs ≡ x.programs)
 came_to y o used (comes {y = a} {o = d} {used = b} {threads' = us} g h N Y P) e =
     let v : a ≡ y = cc in
@@ -270,7 +262,7 @@ module _ (book : List ℕ) (R : Readable book) (A : Accepted book) (ws₀ ws : L
   from_there : {ws' : List ℕ} {r : Regs} {threads : List Thread} {s : Stepped} → StepGives book ws ws' r left threads s → StepGives book ws₀ ws' r left threads s
   from_there S = gives_from (leaves_only M.0) S
 
-  module _ (y : Back) (next : Candidate) (used : ℕ) (e : o ≡ Next y next used) where
+  module _ (y : Back) (next : Option Place) (used : ℕ) (e : o ≡ Next y next used) where
     pub pass_some : (threads : List Thread) × ToClause book ws₀ k x threads → (used ≤ left) × ((threads : List Thread) × ToClause book ws k y threads) × NextIs book ws y next
     pass_some s = let p = came_to y next used (P s.0 s.1) e in (p.0, (p.1.0, p.1.1), p.2)
 
@@ -289,15 +281,15 @@ module _ (book : List ℕ) (R : Readable book) (A : Accepted book) (ws₀ ws : L
         → (threads : List Thread) → ToClause book ws₀ k x threads → StepGives book ws₀ ws' r left threads t
     pass_next r ws' s t T d threads X = let p = came_to y next used (P threads X) e in rw d (from_there (after_pass {r₀ = r} p.0 (omega arith) p.1.2 (T p.1.0 p.1.1)))
 
-  module _ (y : Back) (used : ℕ) (e : o ≡ Through y used) (g : Regs) (d : g ≡ regs_gone y k) where
+  module _ (y : Back) (used : ℕ) (e : o ≡ Through y used) (g : Regs) (d : g ≡ regs_kept y k false) where
     pub pass_through : (r : Regs) → r.solving ≡ false → (threads : List Thread) → ToClause book ws₀ k x threads → StepGives book ws₀ ws r left threads (Onward used g)
     pass_through r s threads X = rw d (from_there (go (P threads X) e))
       where
-        go : {o : Passed} → PassGives book ws k x left threads o → o ≡ Through y used → StepGives book ws ws r left threads (Onward used (regs_gone y k))
+        go : {o : Passed} → PassGives book ws k x left threads o → o ≡ Through y used → StepGives book ws ws r left threads (Onward used (regs_kept y k false))
         go (ends {y = a} {used = b} {ts = ts} i h l G Q) e =
             let v : a ≡ y = cc in let w : b ≡ used = cc in
             let G' = rw v at G in
-            steps_on {r' = regs_gone y k} {used = used} {threads' = ts} (omega (arith, l, w)) (rw s (omega (arith, h, w))) (leaves_none ws) (going_back refl G'.sound G'.waiting) (rw w at Q)
+            steps_on {r' = regs_kept y k false} {used = used} {threads' = ts} (omega (arith, l, w)) (rw s (omega (arith, h, w))) (leaves_none ws) (going_back refl G'.sound G'.waiting) (rw w at Q)
         go (comes i h N Y Q) e = let z : ◌≡◌ {A = ℕ} 0 1 = cc in absurd (omega arith)
 
     pub through_memo : (threads : List Thread) × ToClause book ws₀ k x threads → Memo book ws₀ x.programs left → MemoStepped book ws left (Onward used g)
@@ -307,6 +299,3 @@ module _ (book : List ℕ) (R : Readable book) (A : Accepted book) (ws₀ ws : L
         go : {o : Passed} → PassGives book ws k x left s.0 o → o ≡ Through y used → y.programs ≤ x.programs
         go (ends {y = a} i h l G Q) e = let v : a ≡ y = cc in omega (arith, rw v at i)
         go (comes i h N Y Q) e = let z : ◌≡◌ {A = ℕ} 0 1 = cc in absurd (omega arith)
-
-pub never {ℓ} : {X : Type ℓ} → ◌≡◌ {A = Bool} false true → X
-never e = let z : ◌≡◌ {A = ℕ} 0 1 = cc in absurd (omega arith)

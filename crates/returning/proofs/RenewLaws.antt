@@ -2,6 +2,7 @@
 use mathlib.Core.Path.{◌≡◌, refl, ◌∙◌, ap}
 use mathlib.Core.Logic.{inl, inr}
 use mathlib.Core.List.{List, [], ◌∷◌}
+use Rattle.std.specs.Prelude.{Option, Some, None}
 use Prim.Native.Nat.{ℕ, suc, ◌+◌, ◌-◌, ◌*◌, ◌/◌, ◌%◌, ◌≤◌, ◌<◌}
 use native.Mathlib.Omega.{arith}
 use lib.ListN.{length}
@@ -15,8 +16,7 @@ use Rattle.words.proofs.PackLaws.{rec_pack, base_pack, pack_large}
 use Rattle.words.proofs.StackLaws.{keeps_refl}
 use Rattle.words.proofs.FrameLaws.{fits_most}
 use Rattle.branch.specs.declared.Back.{Back}
-use Rattle.seeking.specs.declared.Candidate.{Candidate}
-use Rattle.seeking.specs.declared.Candidate.TheVariants.{At, Nothing}
+use Rattle.seeking.specs.declared.Place.{Place}
 use Rattle.branch.specs.State.{IsRest, IsRest.own_rest, IsRest.put_rest, IsClause, IsGoals, IsGoals.no_goals, IsGoals.goal_cell, Sound, Alternative.other_clause, Agree}
 use Rattle.branch.specs.Alternatives.{keep_words}
 use Rattle.seeking.specs.Seeking.{IsCandidate, Sought, Sought.sought, Sought.no_more}
@@ -72,27 +72,24 @@ module _ (book : List ℕ) (ws : List ℕ) (k : ℕ) (x : Back) (threads : List 
   -- the numbers that are kept are small
   abbrev Small : ℕ → ℕ → Type 0
   Small q i =
-      ((k < 512) × (length ws ≡ 16384))
-      × (((x.made < 4096) × (x.trail < 4096) × (x.cells < 4096) × (x.programs < 4096) × (x.cell < 4096) × (x.taken < 4096)) × ((x.supposed < 256) × (x.call < 1024) × (q < 1024) × (i < 2048)))
+      ((x.made < 4096) × (x.trail < 4096) × (x.cells < 4096) × (x.programs < 4096) × (x.cell < 4096) × (x.taken < 4096))
+      × ((x.supposed < 256) × (x.call < 1024) × (q < 1024) × (i < 2048))
 
   keep_small : Accepted book → (q i : ℕ) {after : List Force} → IsRest book ws x.made x.programs q i after → Small q i
   keep_small A q i r = (
-    (kept_below, S.slots.size),
     (
-      (
-        omega (arith, S.slots.room),
-        omega (arith, trail_room),
-        omega (arith, S.cells_most),
-        omega (arith, S.programs_most),
-        omega (arith, goals_below S.cells_some X.again.there.goals, S.cells_most),
-        omega (arith, X.with.most),
-      ),
-      (
-        rw X.again.flagged (flag_small X.again.supposed),
-        X.with.called,
-        omega (arith, rest_below S.programs_some r, S.programs_most),
-        omega (arith, rest_number A r),
-      ),
+      omega (arith, S.slots.room),
+      omega (arith, trail_room),
+      omega (arith, S.cells_most),
+      omega (arith, S.programs_most),
+      omega (arith, goals_below S.cells_some X.again.there.goals, S.cells_most),
+      omega (arith, X.with.most),
+    ),
+    (
+      rw X.again.flagged (flag_small X.again.supposed),
+      X.with.called,
+      omega (arith, rest_below S.programs_some r, S.programs_most),
+      omega (arith, rest_number A r),
     ),
   )
 
@@ -147,27 +144,27 @@ module _ (book : List ℕ) (ws : List ℕ) (k : ℕ) (x : Back) (threads : List 
         let w : m ≡ field book X.a 2 = me ∙ ap (λ (r : ℕ). field book r 2) z in
         record { c = X.f; after = X.after; clause = X.with.clause; first = rw (y, w) X.with.first }
 
-    pub next_is : (o : Candidate) → ((rest : List Force) → IsRest book ws x.made x.programs x.node (x.index + 1) rest → Sought book ws x.made x.programs f m rest o) → NextIs book ws x o
+    pub next_is : (o : Option Place) → ((rest : List Force) → IsRest book ws x.made x.programs x.node (x.index + 1) rest → Sought book ws x.made x.programs f m rest o) → NextIs book ws x o
     next_is o s = rw (fe, me, ae) at s
 
-  module _ (o : Candidate) (s : NextIs book ws x o) where
+  module _ (o : Option Place) (s : NextIs book ws x o) where
     pub here : Sought book ws x.made x.programs (field book X.a 1) (field book X.a 2) X.after o
     here = rw atom_record at (s X.after standing)
 
-    pub keep_ready : Accepted book → (q i : ℕ) → o ≡ At q i → Small q i
-    keep_ready A q i e = go (rw e at here)
+    pub keep_ready : Accepted book → (p : Place) → o ≡ Some p → Small p.program p.clause
+    keep_ready A p e = go (rw e at here)
       where
-        go : Sought book ws x.made x.programs (field book X.a 1) (field book X.a 2) X.after (At q i) → Small q i
-        go (sought r y z) = keep_small A q i r.0
+        go : Sought book ws x.made x.programs (field book X.a 1) (field book X.a 2) X.after (Some p) → Small p.program p.clause
+        go (sought r y z) = keep_small A p.program p.clause r.0
 
-    pub renewed : Accepted book → (q i : ℕ) (y : Back) (ws' : List ℕ) → o ≡ At q i → y ≡ moved x q i → ws' ≡ keep_words ws k y → Renewed book ws ws' k x threads X (k + 1)
-    renewed A q i y ws' e ye d = rw (d, ye) (go (rw e at here))
+    pub renewed : Accepted book → (p : Place) (y : Back) (ws' : List ℕ) → o ≡ Some p → y ≡ moved x p.program p.clause → ws' ≡ keep_words ws k y → Renewed book ws ws' k x threads X (k + 1)
+    renewed A p y ws' e ye d = rw (d, ye) (go (rw e at here))
       where
-        go : Sought book ws x.made x.programs (field book X.a 1) (field book X.a 2) X.after (At q i) → Renewed book ws (keep_words ws k (moved x q i)) k x threads X (k + 1)
-        go (sought {c = c} {after = after} r y z) = renew_keeps q i c after r A y z
+        go : Sought book ws x.made x.programs (field book X.a 1) (field book X.a 2) X.after (Some p) → Renewed book ws (keep_words ws k (moved x p.program p.clause)) k x threads X (k + 1)
+        go (sought {c = c} {after = after} r y z) = renew_keeps p.program p.clause c after r A y z
 
-    pub dropped : o ≡ Nothing → Renewed book ws ws k x threads X k
+    pub dropped : o ≡ None → Renewed book ws ws k x threads X k
     dropped e = go (rw e at here)
       where
-        go : Sought book ws x.made x.programs (field book X.a 1) (field book X.a 2) X.after Nothing → Renewed book ws ws k x threads X k
+        go : Sought book ws x.made x.programs (field book X.a 1) (field book X.a 2) X.after None → Renewed book ws ws k x threads X k
         go (no_more z) = renew_drops z

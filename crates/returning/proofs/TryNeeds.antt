@@ -45,7 +45,7 @@ module _ (book : List ℕ) (R : Readable book) (A : Accepted book) (ws : List �
       room_is : x.made + field book (clause_now book R A ws k x threads X) 1 ≤ 2048
       room_is = rw made_is at h
 
-      pub put_ready : (p.clause < records book) × (x.made < 4096) × (x.cells < 1026) × (x.call < 4096) × (x.cell < 4096) × (length ws₁ ≡ 16384)
+      pub put_ready : (p.clause < records book) × (x.made < 4096) × (x.cells < 1026) × (x.call < 4096) × (x.cell < 4096)
       put_ready =
           let S = X.again.sound in (
             clause_inside,
@@ -53,7 +53,6 @@ module _ (book : List ℕ) (R : Readable book) (A : Accepted book) (ws : List �
             omega (arith, X.with.room, X.with.most),
             omega (arith, X.with.called),
             omega (arith, goals_below S.cells_some X.again.there.goals, S.cells_most),
-            (N threads X).below.size ∙ S.slots.size,
           )
 
       module _ (ws₂ : List ℕ) (l : Front) (we : ws₂ ≡ body_words book p.clause x ws₁) (le : l ≡ front_of book p.clause x) where

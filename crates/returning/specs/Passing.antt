@@ -1,6 +1,6 @@
 -- Passing over candidates: a clause whose head has at its first argument a term with another symbol or argument count than the atom's, read through.
 -- The machine enters it and fails at the first pair: two units, and the next candidate is tried.
-use Rattle.std.specs.Prelude.{◌≡◌, false, ◌&&◌, List, ℕ, suc, ◌+◌, ◌-◌, ◌/◌, ◌≤◌, ◌<◌, eqb}
+use Rattle.std.specs.Prelude.{◌≡◌, false, ◌&&◌, List, ℕ, suc, ◌+◌, ◌-◌, ◌/◌, ◌≤◌, ◌<◌, eqb, Option, Some, None}
 use Rattle.book.specs.Records.{field}
 use Rattle.machine.specs.declared.Tally.{Tally}
 use Rattle.machine.specs.Machine.{Thread, Branch, Force}
@@ -9,18 +9,16 @@ use Rattle.machine.specs.Run.{Request}
 use Rattle.words.specs.Words.{word_for, sym_w, rec_of}
 use Rattle.words.specs.Good.{ReadThrough}
 use Rattle.branch.specs.declared.Back.{Back}
-use Rattle.seeking.specs.declared.Candidate.{Candidate}
-use Rattle.seeking.specs.declared.Candidate.TheVariants.{At, Nothing}
+use Rattle.seeking.specs.declared.Place.{Place}
 use Rattle.branch.specs.State.{IsRest}
 use Rattle.seeking.specs.Seeking.{Sought}
 use Rattle.steps.specs.Search.{run_on, spent_units}
-use Rattle.steps.specs.declared.Regs.{Regs}
 use Rattle.steps.specs.declared.Stepped.{Stepped}
 use Rattle.steps.specs.declared.Stepped.TheVariants.{Onward, Finished}
 use Rattle.returning.specs.declared.Passed.{Passed}
 use Rattle.returning.specs.declared.Passed.TheVariants.{Next, Through}
 use Rattle.returning.specs.Returns.{Again, ToClause}
-use Rattle.returning.specs.Reentry.{moved, regs_of}
+use Rattle.returning.specs.Reentry.{moved}
 
 -- the first argument of an atom or head of record r
 abbrev pub first_argument : List ℕ → ℕ → ℕ
@@ -43,26 +41,22 @@ abbrev pub Passes : ℕ → ℕ → List Thread → List Thread → Type 0
 Passes left used threads threads' = (q : Request) (y : Tally) (ls : List Line) → run_on q left y ls threads ≡ run_on q (left - used) (spent_units used y) ls threads'
 
 -- the candidate after the next one
-abbrev pub NextIs : List ℕ → List ℕ → Back → Candidate → Type 0
+abbrev pub NextIs : List ℕ → List ℕ → Back → Option Place → Type 0
 NextIs book ws x o = (rest : List Force) → IsRest book ws x.made x.programs x.node (x.index + 1) rest
     → Sought book ws x.made x.programs (field book (x.atom / 4096 - 1) 1) (field book (x.atom / 4096 - 1) 2) rest o
 
 -- one candidate is passed over, onto the one after it or none
-pub data OnePass (book ws : List ℕ) (k : ℕ) (x : Back) (threads : List Thread) : Candidate → Type 0 where
-  moves : {q i : ℕ} {threads' : List Thread} → ToClause book ws k (moved x q i) threads'
-      → ((r : Request) (n : ℕ) (y : Tally) (ls : List Line) → run_on r (suc (suc n)) y ls threads ≡ run_on r n (spent_units 2 y) ls threads') → OnePass book ws k x threads (At q i)
+pub data OnePass (book ws : List ℕ) (k : ℕ) (x : Back) (threads : List Thread) : Option Place → Type 0 where
+  moves : {p : Place} {threads' : List Thread} → ToClause book ws k (moved x p.program p.clause) threads'
+      → ((r : Request) (n : ℕ) (y : Tally) (ls : List Line) → run_on r (suc (suc n)) y ls threads ≡ run_on r n (spent_units 2 y) ls threads') → OnePass book ws k x threads (Some p)
   gone : {b : Branch} {ts : List Thread} → Again book ws k x b ts
-      → ((r : Request) (n : ℕ) (y : Tally) (ls : List Line) → run_on r (suc (suc n)) y ls threads ≡ run_on r n (spent_units 2 y) ls ts) → OnePass book ws k x threads Nothing
+      → ((r : Request) (n : ℕ) (y : Tally) (ls : List Line) → run_on r (suc (suc n)) y ls threads ≡ run_on r n (spent_units 2 y) ls ts) → OnePass book ws k x threads None
 
 -- all that clash are passed over, with so many units: the candidate that is next, and the one after it; or there is none left
 pub data PassGives (book ws : List ℕ) (k : ℕ) (x : Back) (left : ℕ) (threads : List Thread) : Passed → Type 0 where
-  comes : {y : Back} {o : Candidate} {used : ℕ} {threads' : List Thread} → y.programs ≡ x.programs → used ≤ left → NextIs book ws y o → ToClause book ws k y threads' → Passes left used threads threads'
+  comes : {y : Back} {o : Option Place} {used : ℕ} {threads' : List Thread} → y.programs ≡ x.programs → used ≤ left → NextIs book ws y o → ToClause book ws k y threads' → Passes left used threads threads'
       → PassGives book ws k x left threads (Next y o used)
   ends : {y : Back} {used : ℕ} {b : Branch} {ts : List Thread} → y.programs ≡ x.programs → 0 < used → used ≤ left → Again book ws k y b ts → Passes left used threads ts → PassGives book ws k x left threads (Through y used)
-
--- the registers for going back from an alternative that has no candidate left
-abbrev pub regs_gone : Back → ℕ → Regs
-regs_gone x n = regs_of x x.made n (record { cell = x.cell; cells = x.cells }) x.trail false
 
 -- a step after so many units more
 unfoldable pub later_by : ℕ → Stepped → Stepped

@@ -50,9 +50,9 @@ abbrev pub regs_of : Back → ℕ → ℕ → Front → ℕ → Bool → Regs
 regs_of x made n l trail solving = record
     { made = made; trail = trail; cells = l.cells; programs = x.programs; alternatives = n; cell = l.cell; taken = x.taken; supposed = eqb x.supposed 1; solving = solving }
 
--- the registers with the branch of an alternative in hand again
-abbrev pub regs_again : Back → ℕ → Regs
-regs_again x n = regs_of x x.made n (record { cell = x.cell; cells = x.cells }) x.trail true
+-- the registers with the numbers of an alternative, n alternatives left: its branch is in hand again, or, as it has no candidate left, none is
+abbrev pub regs_kept : Back → ℕ → Bool → Regs
+regs_kept x n solving = regs_of x x.made n (record { cell = x.cell; cells = x.cells }) x.trail solving
 
 -- the clause entered is one unit more than unifying took
 unfoldable pub outcome_by : Back → ℕ → ℕ → Front → ℕ → ℕ → How → Stepped

@@ -1,6 +1,6 @@
 -- Document 01, "Going back": the newest alternative, with bindings, list and programs as they were.
 -- What is there once the trail was undone, by the numbers x that alternative k held.
-use Rattle.std.specs.Prelude.{◌≡◌, Bool, List, ◌∷◌, ℕ, ◌+◌, ◌*◌, ◌≤◌, ◌<◌, length}
+use Rattle.std.specs.Prelude.{◌≡◌, Bool, List, ◌∷◌, ℕ, ◌+◌, ◌*◌, ◌≤◌, ◌<◌}
 use Rattle.book.specs.Records.{field}
 use Rattle.book.specs.Kinds.{kind_at, atom_kind}
 use Rattle.book.specs.Decode.{arguments_of}
@@ -41,7 +41,6 @@ pub record Leads (book ws : List ℕ) (x : Back) : Type 0 where
   pub after : List Force
   pub clause : IsClause book ws x.made x.programs x.node x.index f after
   pub few : x.programs ≤ 514
-  pub size : length ws ≡ 16384
 
 abbrev pub atom_of : List ℕ → ℕ → ℕ → List Force → Atom
 atom_of book a e program = record { symbol = field book a 1; arguments = arguments_of book a; base = e; program = program }

@@ -1,7 +1,8 @@
 // Going back to the newest alternative, and trying the next candidate of its atom.
 #![tactic(auto)]
 
-ghost use Rattle.std.specs.Prelude.{◌≡◌, true, false, List, ℕ, ◌+◌, ◌-◌, ◌*◌, ◌/◌, ◌%◌, ◌≤◌, ◌<◌, length};
+ghost use Rattle.std.specs.Prelude.{◌≡◌, true, false, List, ℕ, ◌+◌, ◌-◌, ◌*◌, ◌/◌, ◌%◌, ◌≤◌, ◌<◌, length, IfSome, IsSomeAnd};
+ghost use Rattle.std.specs.Option.{ForSome};
 ghost use Rattle.book.specs.Records.{field as book_field, records};
 ghost use Rattle.book.proofs.Accepted.{Accepted};
 ghost use Rattle.machine.specs.Machine.{Thread};
@@ -10,14 +11,16 @@ ghost use Rattle.seeking.specs.Seeking.{AllIndexed};
 ghost use Rattle.seeking.specs.Memo.{Memo, MemoStays};
 ghost use Rattle.steps.specs.Search.{Stands, units_of, MemoStepped};
 ghost use Rattle.returning.specs.Returns.{Leads, ToClause};
-ghost use Rattle.returning.specs.Reentry.{place_of, moved, Renewed, body_words, front_of, regs_again, outcome_of, Tries};
+ghost use Rattle.returning.specs.Reentry.{place_of, moved, Renewed, body_words, front_of, regs_of, outcome_of, Tries};
 ghost use Rattle.returning.specs.Reaching.{ReachContract, CanGoOn, GoesOn, MemoReached};
-ghost use Rattle.returning.specs.Passing.{first_argument, FirstIs, Clashes, NextIs, PassGives, regs_gone, later_by};
+ghost use Rattle.returning.specs.Passing.{first_argument, FirstIs, Clashes, NextIs, PassGives, later_by};
 
+use book::Kind;
 use branch::Back;
+use index::Head;
 use looks::How;
 use machine::{Ending, Limit};
-use seeking::Candidate;
+use seeking::Place;
 use steps::{Regs, Stepped};
 use unifier::Unified;
 use words::{Book, Words};
@@ -43,54 +46,43 @@ fn place(book: &Book, ws: &Words, x: Back) -> InForce
     ensures { result ≡ place_of book.now.bytes.now ws.now x.node x.index }
 {
     if x.node == 0 {
-        let last = book.last();
-        let first = book.field(last, 1);
-        let c = book.field(first + x.index, 1);
+        let first = book.field(book.last(), 1);
         return InForce {
-            clause: c,
+            clause: book.field(first + x.index, 1),
             outer: 0,
         };
     }
     let w = ws[(8200 + 3 * x.node) as usize];
     let first = book.field(w / 4096 - 1, 1);
-    let c = book.field(first + x.index, 1);
     InForce {
-        clause: c,
+        clause: book.field(first + x.index, 1),
         outer: w % 4096,
     }
 }
 
 // The numbers of an alternative with another candidate.
-fn at_place(x: Back, q: u32, i: u32) -> Back
-    ensures { result ≡ moved x q i }
+fn at_place(x: Back, place: Place) -> Back
+    ensures { result ≡ moved x place.program place.clause }
 {
     Back {
-        made: x.made,
-        trail: x.trail,
-        cells: x.cells,
-        programs: x.programs,
-        cell: x.cell,
-        taken: x.taken,
-        supposed: x.supposed,
-        atom: x.atom,
-        call: x.call,
-        node: q,
-        index: i,
+        node: place.program,
+        index: place.clause,
+        ..x
     }
 }
 
 // Keeps alternative k for the candidates from `next` on, if there are any: how many alternatives there are now.
-fn renew(book: &Book, ws: &mut Words, k: u32, x: Back, next: Candidate) -> u32
+fn renew(book: &Book, ws: &mut Words, k: u32, x: Back, next: Option<Place>) -> u32
     requires accepted { Accepted book.now.bytes.now × NextIs book.now.bytes.now ws.old x next }
     requires to_clause { (threads : List Thread) × ToClause book.now.bytes.now ws.old k x threads }
     ensures { (threads : List Thread) (X : ToClause book.now.bytes.now ws.old k x threads) → Renewed book.now.bytes.now ws.old ws.new k x threads X result }
 {
     match next {
-        Candidate::At(q, i) => {
-            branch::keep(ws, k, at_place(x, q, i));
+        Some(place) => {
+            branch::keep(ws, k, at_place(x, place));
             k + 1
         }
-        Candidate::Nothing => k,
+        None => k,
     }
 }
 
@@ -100,8 +92,7 @@ fn put_body(book: &Book, ws: &mut Words, c: u32, x: Back) -> Front
     ensures ws_after { ws.new ≡ body_words book.now.bytes.now c x ws.old }
     ensures value { result ≡ front_of book.now.bytes.now c x }
 {
-    let flag = book.field(c, 5);
-    if flag == 1 {
+    if book.field(c, 5) == 1 {
         let g = book.field(c, 6);
         branch::put_cell(ws, x.cells, 4096 * (g + 1) + x.made, x.call, x.cell);
         return Front {
@@ -115,68 +106,69 @@ fn put_body(book: &Book, ws: &mut Words, c: u32, x: Back) -> Front
     }
 }
 
+// The registers with an alternative's numbers, n alternatives left: its branch is in hand again, or, as it has no candidate left, none is.
+fn registers(x: Back, n: u32, solving: bool) -> Regs
+    ensures { result ≡ regs_of x x.made n (record { cell = x.cell; cells = x.cells }) x.trail solving }
+{
+    Regs {
+        made: x.made,
+        trail: x.trail,
+        cells: x.cells,
+        programs: x.programs,
+        alternatives: n,
+        cell: x.cell,
+        taken: x.taken,
+        supposed: x.supposed == 1,
+        solving,
+    }
+}
+
 // How entering came out, with `made` variables and n alternatives.
 fn outcome(x: Back, made: u32, n: u32, l: Front, u: Unified) -> Stepped
     requires { u.used + 1 < 4294967296 }
     ensures { result ≡ outcome_of x made n l u }
 {
-    let how = u.how;
-    let supposed = x.supposed == 1;
-    match how {
+    let failed = Regs {
+        made,
+        trail: u.trail,
+        cells: l.cells,
+        cell: l.cell,
+        ..registers(x, n, false)
+    };
+    match u.how {
         How::Done => Stepped::Onward(
             u.used + 1,
             Regs {
-                made: made,
-                trail: u.trail,
-                cells: l.cells,
-                programs: x.programs,
-                alternatives: n,
-                cell: l.cell,
-                taken: x.taken,
-                supposed: supposed,
                 solving: true,
+                ..failed
             },
         ),
-        How::Failed => Stepped::Onward(
-            u.used + 1,
-            Regs {
-                made: made,
-                trail: u.trail,
-                cells: l.cells,
-                programs: x.programs,
-                alternatives: n,
-                cell: l.cell,
-                taken: x.taken,
-                supposed: supposed,
-                solving: false,
-            },
-        ),
-        How::Stopped(m) => Stepped::Finished(Ending::Stopped(m), u.used + 1),
+        How::Failed => Stepped::Onward(u.used + 1, failed),
+        How::Stopped(limit) => Stepped::Finished(Ending::Stopped(limit), u.used + 1),
     }
 }
 
 // Passing over candidates: the numbers with the one that is tried next, and the candidate after it; or there is none left. With the units that it took.
+// An enum of its own: neither case is a failure or the lack of a value, and each has numbers.
 #[derive(Clone, Copy)]
 pub enum Passed {
-    Next(Back, Candidate, u32),
+    Next(Back, Option<Place>, u32),
     Through(Back, u32),
 }
 
-// The atom's first argument, read through, as a word; 0 if it has no argument.
-fn first_word(book: &Book, ws: &Words, k: u32, x: Back) -> u32
+// The word of the term that the atom's first argument is, read through; none if that is a variable, or there is no argument.
+fn first_term(book: &Book, ws: &Words, k: u32, x: Back) -> Option<u32>
     requires accepted { Accepted book.now.bytes.now }
     requires to_clause { (threads : List Thread) × ToClause book.now.bytes.now ws.now k x threads }
-    ensures { 4096 ≤ result → FirstIs book.now.bytes.now ws.now x.made (x.atom / 4096 - 1) (x.atom % 4096) result }
+    ensures { IfSome result (FirstIs book.now.bytes.now ws.now x.made (x.atom / 4096 - 1) (x.atom % 4096)) }
 {
     let a = x.atom / 4096 - 1;
-    let m = book.field(a, 2);
-    if m == 0 {
-        return 0;
+    if book.field(a, 2) == 0 {
+        return None;
     }
-    let first = book.field(a, 3);
-    let t = book.field(first, 1);
-    let w = book.word_for(x.atom % 4096, t);
-    words::read_through(book, x.made, ws, w)
+    let t = book.field(book.field(a, 3), 1);
+    let w = words::read_through(book, x.made, ws, book.word_for(x.atom % 4096, t));
+    if w < 4096 { None } else { Some(w) }
 }
 
 // Whether the head of clause c has at its first argument a term of another symbol or argument count than word w.
@@ -188,26 +180,17 @@ fn clashes(book: &Book, c: u32, w: u32, made: u32) -> bool
     let h = book.field(c, 4);
     let l = book.field(h, 3);
     let u = book.field(l, 1);
-    if book.field(u, 0) != 2 {
-        return false;
-    }
-    let r = w / 4096 - 1;
-    if book.field(r, 1) != book.field(u, 1) {
-        return true;
-    }
-    book.field(r, 2) != book.field(u, 2)
+    book.is(u, Kind::Term) && Head::read(book, w / 4096 - 1) != Head::read(book, u)
 }
 
-// Whether the next candidate clashes at once with the atom, whose first argument is the term of word w (below 4096: it is no term).
-fn passes(book: &Book, ws: &Words, k: u32, x: Back, w: u32) -> bool
+// Whether the next candidate clashes at once with the atom, whose first argument is the term of word `first`, if it is one.
+fn passes(book: &Book, ws: &Words, k: u32, x: Back, first: Option<u32>) -> bool
     requires accepted { Accepted book.now.bytes.now }
-    requires first_is { 4096 ≤ w → FirstIs book.now.bytes.now ws.now x.made (x.atom / 4096 - 1) (x.atom % 4096) w }
+    requires first_is { ForSome first (FirstIs book.now.bytes.now ws.now x.made (x.atom / 4096 - 1) (x.atom % 4096)) }
     requires to_clause { (threads : List Thread) × ToClause book.now.bytes.now ws.now k x threads }
-    ensures { result ≡ true → (4096 ≤ w) × Clashes book.now.bytes.now x.made w (place_of book.now.bytes.now ws.now x.node x.index).clause }
+    ensures { result ≡ true → IsSomeAnd first (λ w. Clashes book.now.bytes.now x.made w (place_of book.now.bytes.now ws.now x.node x.index).clause) }
 {
-    if w < 4096 {
-        return false;
-    }
+    let Some(w) = first else { return false };
     let p = place(book, ws, x);
     if 2048 < x.made + book.field(p.clause, 1) {
         return false;
@@ -216,17 +199,19 @@ fn passes(book: &Book, ws: &Words, k: u32, x: Back, w: u32) -> bool
 }
 
 // The candidate after the next one.
-fn after_next(book: &Book, ws: &mut Words, k: u32, x: Back) -> Candidate
+fn after_next(book: &Book, ws: &mut Words, k: u32, x: Back) -> Option<Place>
     requires accepted { Accepted book.now.bytes.now × AllIndexed book.now.bytes.now ws.old }
     requires to_clause { (threads : List Thread) × ToClause book.now.bytes.now ws.old k x threads }
     requires by_index { (left : ℕ) × Memo book.now.bytes.now ws.old x.programs left }
     ensures next_is { NextIs book.now.bytes.now ws.new x result }
     ensures memo_stays { MemoStays book.now.bytes.now x.programs ws.old ws.new }
 {
-    let a = x.atom / 4096 - 1;
-    let f = book.field(a, 1);
-    let m = book.field(a, 2);
-    seeking::seek_after(book, x.made, ws, x.programs, x.node, x.index, f, m)
+    let head = Head::read(book, x.atom / 4096 - 1);
+    let place = Place {
+        program: x.node,
+        clause: x.index,
+    };
+    seeking::seek_after(book, x.made, ws, x.programs, place, head)
 }
 
 // Passes over the candidates that clash at once with the atom: each is entered and fails at its first pair, two units.
@@ -237,27 +222,27 @@ fn pass_over(book: &Book, ws: &mut Words, k: u32, x: Back, left: u32) -> Passed
     ensures pass_gives { (threads : List Thread) → ToClause book.now.bytes.now ws.old k x threads → PassGives book.now.bytes.now ws.new k x left threads result }
     ensures memo_stays { MemoStays book.now.bytes.now x.programs ws.old ws.new }
 {
-    let w = first_word(book, ws, k, x);
+    let first = first_term(book, ws, k, x);
     let mut y = x;
     let mut used: u32 = 0;
     loop {
         let next = after_next(book, ws, k, y);
-        if !passes(book, ws, k, y, w) {
+        if !passes(book, ws, k, y, first) {
             return Passed::Next(y, next, used);
         }
         if left - used < 2 {
             return Passed::Next(y, next, used);
         }
         match next {
-            Candidate::Nothing => return Passed::Through(y, used + 2),
-            Candidate::At(q, i) => y = at_place(y, q, i),
+            None => return Passed::Through(y, used + 2),
+            Some(place) => y = at_place(y, place),
         }
         used += 2;
     }
 }
 
 // Enters the next candidate of alternative k; `next` is the one after it.
-fn try_next(book: &Book, ws: &mut Words, k: u32, x: Back, next: Candidate, left: u32) -> Stepped
+fn try_next(book: &Book, ws: &mut Words, k: u32, x: Back, next: Option<Place>, left: u32) -> Stepped
     requires accepted { Accepted book.now.bytes.now × NextIs book.now.bytes.now ws.old x next }
     requires left_nonzero { 0 < left }
     requires to_clause { (threads : List Thread) × ToClause book.now.bytes.now ws.old k x threads }
@@ -286,24 +271,6 @@ fn try_next(book: &Book, ws: &mut Words, k: u32, x: Back, next: Candidate, left:
     outcome(x, made, n, l, u)
 }
 
-// The registers for going back from an alternative that has no candidate left, with n alternatives.
-fn given_up(x: Back, n: u32) -> Regs
-    ensures { result ≡ regs_gone x n }
-{
-    let supposed = x.supposed == 1;
-    Regs {
-        made: x.made,
-        trail: x.trail,
-        cells: x.cells,
-        programs: x.programs,
-        alternatives: n,
-        cell: x.cell,
-        taken: x.taken,
-        supposed: supposed,
-        solving: false,
-    }
-}
-
 // A step that came after so many units.
 fn later(used: u32, s: Stepped) -> Stepped
     requires { used + units_of s < 4294967296 }
@@ -324,32 +291,13 @@ fn try_all(book: &Book, ws: &mut Words, k: u32, x: Back, left: u32) -> Stepped
     ensures memo_stepped { MemoStepped book.now.bytes.now ws.new left result }
 {
     match pass_over(book, ws, k, x, left) {
-        Passed::Through(y, used) => Stepped::Onward(used, given_up(y, k)),
+        Passed::Through(y, used) => Stepped::Onward(used, registers(y, k, false)),
         Passed::Next(y, next, used) => {
             if left <= used {
                 return Stepped::Finished(Ending::Stopped(Limit::Budget), used);
             }
-            let s = try_next(book, ws, k, y, next, left - used);
-            later(used, s)
+            later(used, try_next(book, ws, k, y, next, left - used))
         }
-    }
-}
-
-// The branch of an alternative in hand again, with n alternatives left.
-fn restored(kept: Back, n: u32) -> Regs
-    ensures { result ≡ regs_again kept n }
-{
-    let supposed = kept.supposed == 1;
-    Regs {
-        made: kept.made,
-        trail: kept.trail,
-        cells: kept.cells,
-        programs: kept.programs,
-        alternatives: n,
-        cell: kept.cell,
-        taken: kept.taken,
-        supposed: supposed,
-        solving: true,
     }
 }
 
@@ -376,7 +324,7 @@ pub fn back(book: &Book, ws: &mut Words, r: Regs, left: u32) -> Reached
     let k = r.alternatives - 1;
     let x = branch::go_back(ws, k, r.trail);
     if x.atom == 0 {
-        return Reached::Onward(0, restored(x, k));
+        return Reached::Onward(0, registers(x, k, true));
     }
     Reached::Clause(0, x, k)
 }

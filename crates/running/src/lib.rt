@@ -13,7 +13,6 @@ ghost use Rattle.machine.specs.Machine.{Thread};
 ghost use Rattle.returning.specs.Reaching.{ReachContract, MemoReached};
 ghost use Rattle.running.specs.Turns.{answer_due, Taken, Midway, TurnGives, one_more, turn_by};
 
-use answers::Answered;
 use machine::{Ending, Limit, Tally};
 use returning::Reached;
 use steps::{Regs, Stepped};
@@ -41,8 +40,7 @@ fn spend(y: Tally, used: u32) -> Tally
 {
     Tally {
         units: y.units + used,
-        answers: y.answers,
-        assumed: y.assumed,
+        ..y
     }
 }
 
@@ -51,17 +49,10 @@ fn count_answer(y: Tally, supposed: bool) -> Tally
     requires { (y.units + 1 < 4294967296) × (y.answers < 64) × (y.assumed ≤ y.answers) }
     ensures { result ≡ one_more y supposed }
 {
-    if supposed {
-        return Tally {
-            units: y.units + 1,
-            answers: y.answers + 1,
-            assumed: y.assumed + 1,
-        };
-    }
     Tally {
         units: y.units + 1,
         answers: y.answers + 1,
-        assumed: y.assumed,
+        assumed: y.assumed + u32::from(supposed),
     }
 }
 
@@ -97,8 +88,8 @@ fn answer(
     seeking::forget(ws, r.made);
     let k = y.answers as u16;
     match answers::write_answer(book, r.made, ws, out, end, k, unknowns) {
-        Answered::Cut(m) => Turned::Over(Ending::Stopped(m), y),
-        Answered::Written(e) => {
+        Err(limit) => Turned::Over(Ending::Stopped(limit), y),
+        Ok(e) => {
             let z = count_answer(y, r.supposed);
             if z.answers == wanted {
                 return Turned::Over(Ending::Enough, z);
@@ -112,10 +103,7 @@ fn answer(
 fn answer_due(r: Regs) -> bool
     ensures { result ≡ answer_due r }
 {
-    if r.solving {
-        return r.cell == 0;
-    }
-    false
+    r.solving && r.cell == 0
 }
 
 // Goes back; or, with a branch in hand, takes its next goal, if the budget has a unit left.
@@ -191,12 +179,7 @@ pub fn run(
     let mut end: usize = 0;
     loop {
         match turn(book, ws, out, r, y, end, unknowns, wanted, budget) {
-            Turned::Over(e, z) => {
-                return Ran {
-                    ending: e,
-                    tally: z,
-                };
-            }
+            Turned::Over(ending, tally) => return Ran { ending, tally },
             Turned::On(z, s, e) => {
                 r = s;
                 y = z;

@@ -3,7 +3,6 @@ use mathlib.Core.Path.{◌≡◌, refl, ◌∙◌}
 use mathlib.Core.List.{List, []}
 use Prim.Native.Nat.{ℕ, ◌+◌, ◌≤◌, ◌<◌}
 use native.Mathlib.Omega.{arith}
-use lib.ListN.{length}
 use Rattle.book.specs.Records.{field, records}
 use Rattle.book.specs.Decode.{arguments_of}
 use Rattle.words.specs.Readable.{Readable}
@@ -16,17 +15,15 @@ use Rattle.unifier.specs.PairRuns.{pair_run}
 use Rattle.unifier.specs.Pairs.{Ends, at_runs}
 use Rattle.looks.proofs.RunLaws.{arguments_run}
 use Rattle.branch.specs.Entries.{put_ties, TieRun}
-use Rattle.words.proofs.ClearLaws.{clear_length}
 use Rattle.branch.proofs.EntryLaws.{entered, entered_below, entered_above, entered_store, entered_slots, entered_fits}
 use Rattle.steps.specs.Enters.{head_of, EnterReady, Enters}
 
 module _ (book : List ℕ) (R : Readable book) (made trail : ℕ) (ws : List ℕ) (a e c o : ℕ) (X : EnterReady book made trail ws a e c o) where
-  pub open_ready : (n : ℕ) → n ≡ field book c 1 → (made + n ≤ 2048) × (length ws ≡ 16384)
-  open_ready n p = rw p (X.room, X.slots.size)
+  pub open_ready : (n : ℕ) → n ≡ field book c 1 → made + n ≤ 2048
+  open_ready n p = rw p X.room
 
-  pub ties_ready : (n first t : ℕ) (ws₁ : List ℕ) → n ≡ field book c 1 → first ≡ field book c 2 → t ≡ field book c 3 → ws₁ ≡ clear_words made n ws
-      → TieRun book made n o first t × ((made + n ≤ 2048) × (t ≤ 64) × (first < 4096) × (length ws₁ ≡ 16384))
-  ties_ready n first t ws₁ p q r s = rw (s, p, q, r) (X.ties, (X.room, X.ties_some, X.tie_first, clear_length made (field book c 1) ws ∙ X.slots.size))
+  pub ties_ready : (n first t : ℕ) → n ≡ field book c 1 → first ≡ field book c 2 → t ≡ field book c 3 → TieRun book made n o first t × ((made + n ≤ 2048) × (t ≤ 64) × (first < 4096))
+  ties_ready n first t p q r = rw (p, q, r) (X.ties, (X.room, X.ties_some, X.tie_first))
 
   abbrev made_here : List ℕ
   made_here = entered book made (field book c 1) o (field book c 2) (field book c 3) ws X.slots X.room X.ties

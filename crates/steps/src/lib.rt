@@ -36,15 +36,11 @@ pub fn to_back(r: Regs) -> Regs
     ensures { result ≡ back_regs r }
 {
     Regs {
-        made: r.made,
-        trail: r.trail,
-        cells: r.cells,
-        programs: r.programs,
-        alternatives: r.alternatives,
         cell: 0,
         taken: 0,
         supposed: false,
         solving: false,
+        ..r
     }
 }
 

@@ -5,17 +5,14 @@ use Rattle.returning.proofs.RenewLaws.{atom_large, atom_inside, atom_few, candid
 use Rattle.returning.proofs.MemoFrames.{next_only}
 use Rattle.returning.proofs.after_next.Goals as goal
 
-pub overflow_sub-a : goal.overflow_sub-a
-overflow_sub-a c = omega (arith, atom_large _ _ _ _ _ c.requires.to_clause.1)
+pub overflow_sub-x : goal.overflow_sub-x
+overflow_sub-x c = omega (arith, atom_large _ _ _ _ _ c.requires.to_clause.1)
 
-pub field-f-requires : goal.field-f-requires
-field-f-requires c = let p = c.requires in record { r_bound = atom_inside _ _ _ _ _ p.to_clause.1; k_bound = omega arith }
-
-pub field-m-requires : goal.field-m-requires
-field-m-requires c = let p = c.requires in record { r_bound = atom_inside _ _ _ _ _ p.to_clause.1; k_bound = omega arith }
+pub read-head-requires : goal.read-head-requires
+read-head-requires c = atom_inside _ _ _ _ _ c.requires.to_clause.1
 
 pub seek_after-requires : goal.seek_after-requires
-seek_after-requires c = let p = c.requires in let X = p.to_clause.1 in record { formed = (p.accepted.0.formed, own_ready _ p.accepted.0, p.accepted.1); candidate = candidate_here _ _ _ _ _ X _ _ _ refl c.field-f.ensures.0 c.field-m.ensures.0; ws_len = (X.again.sound.slots.size, X.again.sound.programs_most, c.field-f.ensures.1, rw c.field-m.ensures.0 (atom_few _ _ _ _ _ X c.args.book.now.readable)); by_index = p.by_index }
+seek_after-requires c = let p = c.requires in let X = p.to_clause.1 in record { formed = (p.accepted.0.formed, own_ready _ p.accepted.0, p.accepted.1); candidate = candidate_here _ _ _ _ _ X _ _ _ refl c.read-head.ensures.0 c.read-head.ensures.1; few = (X.again.sound.programs_most, rw c.read-head.ensures.1 (atom_few _ _ _ _ _ X c.args.book.now.readable)); by_index = p.by_index }
 
 pub returns : goal.returns
-returns c = let X = c.requires.to_clause.1 in let e = c.seek_after.ensures in record { next_is = next_only e.memo_stays.0 c.args.x X.again.sound.programs_most (next_is _ _ _ _ _ X _ _ _ refl c.field-f.ensures.0 c.field-m.ensures.0 _ e.sought); memo_stays = e.memo_stays }
+returns c = let X = c.requires.to_clause.1 in let e = c.seek_after.ensures in record { next_is = next_only e.memo_stays.0 c.args.x X.again.sound.programs_most (next_is _ _ _ _ _ X _ _ _ refl c.read-head.ensures.0 c.read-head.ensures.1 _ e.sought); memo_stays = e.memo_stays }

@@ -5,38 +5,23 @@ use Rattle.branch.proofs.FromScoped.{own_ready}
 use Rattle.returning.proofs.MemoFrames.{indexed_only}
 use Rattle.returning.proofs.pass_over.Goals as goal
 
-pub first_word-w-requires : goal.first_word-w-requires
-first_word-w-requires c = let p = c.requires in record { accepted = p.accepted.0; to_clause = p.to_clause }
-
-pub loop-y-init : goal.loop-y-init
-loop-y-init c = inv_start c.first_word-w.ensures c.requires.to_clause
+pub loop-first-init : goal.loop-first-init
+loop-first-init c = inv_start _ c.first_term-first.ensures c.requires.to_clause
 
 pub after_next-next-requires : goal.after_next-next-requires
-after_next-next-requires c = let p = c.requires in let I = c.loop-y.invariant in record { accepted = (p.accepted.0, indexed_only I.memo.0 (own_ready _ p.accepted.0) p.accepted.1); to_clause = I.some; by_index = inv_memo _ _ _ I p.memo }
+after_next-next-requires c = let p = c.requires in let I = c.loop-first.invariant in record { accepted = (p.accepted.0, indexed_only I.memo.0 (own_ready _ p.accepted.0) p.accepted.1); to_clause = I.some; by_index = inv_memo _ _ _ I p.memo }
 
 pub passes-requires : goal.passes-requires
-passes-requires c = let p = c.requires in let I = inv_sought _ _ c.loop-y.invariant c.after_next-next.ensures.memo_stays in record { accepted = p.accepted.0; first_is = I.first; to_clause = I.some }
+passes-requires c = let p = c.requires in let I = inv_sought _ _ c.loop-first.invariant c.after_next-next.ensures.memo_stays in record { accepted = p.accepted.0; first_is = I.first; to_clause = I.some }
 
 pub returns-then-not-passes : goal.returns-then-not-passes
-returns-then-not-passes c = let I = inv_sought _ _ c.loop-y.invariant c.after_next-next.ensures.memo_stays in record { pass_gives = (λ threads X. inv_next _ _ _ I c.after_next-next.ensures.next_is threads X); memo_stays = I.memo }
-
-pub overflow_sub-left : goal.overflow_sub-left
-overflow_sub-left c = c.loop-y.invariant.within
+returns-then-not-passes c = let I = inv_sought _ _ c.loop-first.invariant c.after_next-next.ensures.memo_stays in record { pass_gives = (λ threads X. inv_next _ _ _ I c.after_next-next.ensures.next_is threads X); memo_stays = I.memo }
 
 pub returns-then-left-used-lt2 : goal.returns-then-left-used-lt2
-returns-then-left-used-lt2 c = let I = inv_sought _ _ c.loop-y.invariant c.after_next-next.ensures.memo_stays in record { pass_gives = (λ threads X. inv_next _ _ _ I c.after_next-next.ensures.next_is threads X); memo_stays = I.memo }
+returns-then-left-used-lt2 c = let I = inv_sought _ _ c.loop-first.invariant c.after_next-next.ensures.memo_stays in record { pass_gives = (λ threads X. inv_next _ _ _ I c.after_next-next.ensures.next_is threads X); memo_stays = I.memo }
 
-pub overflow_add-result : goal.overflow_add-result
-overflow_add-result c = let I = c.loop-y.invariant in omega (arith, c.if-left-used-lt2.false, I.within)
+pub returns-in-None : goal.returns-in-None
+returns-in-None c = let p = c.requires in let I = inv_sought _ _ c.loop-first.invariant c.after_next-next.ensures.memo_stays in record { pass_gives = (λ threads X. let d = c.passes.ensures c.if-not-passes.false in inv_gone c.args.book.now.readable p.accepted.0 _ _ I (omega (arith, c.if-left-used-lt2.false)) _ refl d _ c.after_next-next.ensures.next_is c.in-None.is threads X); memo_stays = I.memo }
 
-pub returns-in-Nothing : goal.returns-in-Nothing
-returns-in-Nothing c = let p = c.requires in let I = inv_sought _ _ c.loop-y.invariant c.after_next-next.ensures.memo_stays in record { pass_gives = (λ threads X. let d = c.passes.ensures c.if-not-passes.false in inv_gone c.args.book.now.readable p.accepted.0 _ _ I (omega (arith, c.if-left-used-lt2.false)) _ refl d.0 d.1 _ c.after_next-next.ensures.next_is c.in-Nothing.is threads X); memo_stays = I.memo }
-
-pub overflow_add-used : goal.overflow_add-used
-overflow_add-used c = let I = c.loop-y.invariant in omega (arith, c.if-left-used-lt2.false, I.within, c.ranges)
-
-pub loop-y-smaller : goal.loop-y-smaller
-loop-y-smaller c = let I = c.loop-y.invariant in omega (arith, c.if-left-used-lt2.false, I.within)
-
-pub loop-y-preserved : goal.loop-y-preserved
-loop-y-preserved c = let p = c.requires in let I = inv_sought _ _ c.loop-y.invariant c.after_next-next.ensures.memo_stays in let d = c.passes.ensures c.if-not-passes.false in inv_more c.args.book.now.readable p.accepted.0 _ _ I (omega (arith, c.if-left-used-lt2.false)) _ refl d.0 d.1 _ c.after_next-next.ensures.next_is _ _ _ c.in-At.is c.at_place-y.ensures
+pub loop-first-preserved : goal.loop-first-preserved
+loop-first-preserved c = let p = c.requires in let I = inv_sought _ _ c.loop-first.invariant c.after_next-next.ensures.memo_stays in let d = c.passes.ensures c.if-not-passes.false in inv_more c.args.book.now.readable p.accepted.0 _ _ I (omega (arith, c.if-left-used-lt2.false)) _ refl d _ c.after_next-next.ensures.next_is _ _ c.in-Some.is c.at_place-y.ensures

@@ -7,29 +7,17 @@ use Rattle.returning.proofs.MemoFrames.{memo_ended}
 use borrow.Author.Rules.{rules}
 use Rattle.returning.proofs.try_next.Goals as goal
 
-pub place-p-requires : goal.place-p-requires
-place-p-requires c = let p = c.requires in record { accepted = p.accepted.0; leads = leads _ c.args.book.now.readable p.accepted.0 _ _ _ _ p.to_clause.1 }
-
-pub field-requires : goal.field-requires
-field-requires c = let p = c.requires in record { r_bound = clause_inside _ c.args.book.now.readable p.accepted.0 _ _ _ _ p.to_clause.1 _ c.place-p.ensures; k_bound = search rules }
-
-pub overflow_add-made : goal.overflow_add-made
-overflow_add-made c = omega (arith, c.requires.to_clause.1.again.sound.slots.room, c.field.ensures.1)
+pub field-requires-clause-r_bound : goal.field-requires-clause-r_bound
+field-requires-clause-r_bound c = let p = c.requires in clause_inside _ c.args.book.now.readable p.accepted.0 _ _ _ _ p.to_clause.1 _ c.place-p.ensures
 
 pub returns-then-made-gt2048 : goal.returns-then-made-gt2048
 returns-then-made-gt2048 c = record { tries = (λ r threads h X. let p = c.requires in over _ c.args.book.now.readable p.accepted.0 _ _ _ _ X _ c.place-p.ensures _ c.field.ensures.0 r _ p.left_nonzero (omega (arith, c.if-made-gt2048.true))); memo_stepped = memo_ended _ _ _ _ _ }
-
-pub renew-n-requires : goal.renew-n-requires
-renew-n-requires c = let p = c.requires in record { accepted = p.accepted; to_clause = p.to_clause }
 
 pub put_body-l-requires : goal.put_body-l-requires
 put_body-l-requires c = let p = c.requires in record { c_bound = put_ready _ c.args.book.now.readable p.accepted.0 _ _ _ _ p.to_clause.1 _ c.place-p.ensures _ c.field.ensures.0 c.if-made-gt2048.false _ _ c.renew-n.ensures }
 
 pub overflow_sub-x : goal.overflow_sub-x
 overflow_sub-x c = omega (arith, atom_large _ _ _ _ _ c.requires.to_clause.1)
-
-pub overflow_sub-left : goal.overflow_sub-left
-overflow_sub-left c = let p = c.requires in p.left_nonzero
 
 pub enter-u-requires : goal.enter-u-requires
 enter-u-requires c = let p = c.requires in record { enter_ready = enter_ready_is _ c.args.book.now.readable p.accepted.0 _ _ _ _ p.to_clause.1 _ c.place-p.ensures _ c.field.ensures.0 c.if-made-gt2048.false _ _ c.renew-n.ensures _ _ c.put_body-l.ensures.ws_after c.put_body-l.ensures.value }

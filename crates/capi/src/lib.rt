@@ -3,35 +3,31 @@
 
 ghost use Rattle.std.specs.Prelude.{◌≡◌};
 ghost use Rattle.machine.specs.Call.{call};
-ghost use Rattle.machine.specs.Run.{ending_number};
 ghost use Rattle.capi.specs.Six.{reply_six};
 
-use machine::{Ending, Limit, Outcome, Reply};
-
-fn ending_number(e: Ending) -> u32
-    ensures { result ≡ ending_number e }
-{
-    match e {
-        Ending::Complete => 0,
-        Ending::Enough => 1,
-        Ending::Stopped(l) => match l {
-            Limit::Budget => 2,
-            Limit::Goals => 3,
-            Limit::Variables => 4,
-            Limit::Lists => 5,
-            Limit::Buffer => 6,
-        },
-    }
-}
+use machine::Reply;
 
 fn six(x: Reply) -> [u32; 6]
     ensures { result ≡ reply_six x }
 {
-    let outcome = x.outcome;
     let y = x.tally;
-    match outcome {
-        Outcome::Declined(t, r) => [t as u32, r as u32, 0, 0, 0, 0],
-        Outcome::Ended(e) => [0, 0, ending_number(e), y.answers, y.assumed, y.units],
+    match x.outcome {
+        Err(refusal) => [
+            refusal.test as u32,
+            u32::from(refusal.failing),
+            0,
+            0,
+            0,
+            0,
+        ],
+        Ok(ending) => [
+            0,
+            0,
+            u32::from(ending),
+            y.answers,
+            y.assumed,
+            y.units,
+        ],
     }
 }
 

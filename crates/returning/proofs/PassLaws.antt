@@ -18,7 +18,7 @@ use Rattle.machine.specs.Answers.{Line}
 use Rattle.machine.specs.Run.{Request}
 use Rattle.words.specs.Words.{word_for, sym_w, rec_of}
 use Rattle.words.specs.Readable.{Readable, TextRec}
-use Rattle.words.specs.Good.{Good, ReadThrough}
+use Rattle.words.specs.Good.{Good}
 use Rattle.words.proofs.SlotLaws.{good_term}
 use Rattle.branch.specs.declared.Back.{Back}
 use Rattle.seeking.specs.declared.Place.{Place}

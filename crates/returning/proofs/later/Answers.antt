@@ -1,4 +1,3 @@
-use native.Mathlib.Omega.{arith}
 use Rattle.returning.specs.Passing.{later_by}
 use mathlib.Core.Path.{refl}
 use Rattle.returning.proofs.later.Goals as goal

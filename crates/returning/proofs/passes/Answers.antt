@@ -1,6 +1,5 @@
 use native.Mathlib.Omega.{arith}
 use mathlib.Core.Path.{ap}
-use Rattle.returning.proofs.CandidateLaws.{leads}
 use Rattle.returning.proofs.TryNeeds.{clause_inside}
 use Rattle.returning.proofs.PassLaws.{clash_ready}
 use Rattle.returning.proofs.passes.Goals as goal

@@ -1,11 +1,9 @@
 use native.Mathlib.Omega.{arith}
 use mathlib.Core.Path.{refl}
-use Rattle.book.specs.Records.{records, last_record}
 use Rattle.seeking.proofs.SeekOwn.{last_in}
 use Rattle.branch.proofs.FromScoped.{own_ready}
 use Rattle.words.proofs.ReadLaws.{in_book}
-use Rattle.returning.proofs.PlaceLaws.{own_link, own_place, put_top, put_large, put_inside, put_link, put_place}
-use borrow.Author.Rules.{rules}
+use Rattle.returning.proofs.PlaceLaws.{own_link, own_place, put_large, put_inside, put_link, put_place}
 use Rattle.returning.proofs.place.Goals as goal
 
 pub last-requires : goal.last-requires

@@ -1,5 +1,4 @@
-use native.Mathlib.Omega.{arith}
-use Rattle.returning.proofs.RenewLaws.{kept_below, keep_ready, renewed, dropped}
+use Rattle.returning.proofs.RenewLaws.{keep_ready, renewed, dropped}
 use Rattle.returning.proofs.renew.Goals as goal
 
 pub keep-requires-clause-made_bound : goal.keep-requires-clause-made_bound

@@ -1,10 +1,8 @@
 use native.Mathlib.Omega.{arith}
 use mathlib.Core.Path.{refl}
 use Rattle.returning.proofs.RenewLaws.{atom_large}
-use Rattle.returning.proofs.CandidateLaws.{leads}
 use Rattle.returning.proofs.TryNeeds.{clause_inside, over, put_ready, enter_ready_is, units_fit, tried_memo, tried}
 use Rattle.returning.proofs.MemoFrames.{memo_ended}
-use borrow.Author.Rules.{rules}
 use Rattle.returning.proofs.try_next.Goals as goal
 
 pub field-requires-clause-r_bound : goal.field-requires-clause-r_bound

@@ -1,11 +1,13 @@
-use borrow.Author.Tests.{eq-eqb, ne_eqb}
+use mathlib.Core.Path.{sym, ◌∙◌}
+use borrow.Author.Tests.{eq-eqb}
+use Rattle.records.proofs.BodyLaws.{body_some, body_none}
 use Rattle.scope.specs.Parts.{bodies}
 use Rattle.scope.proofs.body_count.Goals as goal
 
-pub returns-then-flag-eq1 : goal.returns-then-flag-eq1
+pub returns-in-Some : goal.returns-in-Some
 unfolding bodies
-returns-then-flag-eq1 c = rw (bodies, eq-eqb _ _ c.if-flag-eq1.true)
+returns-in-Some c = let s = body_some c.args.rec _ (sym c.body.ensures ∙ c.in-Some.is) in rw (bodies, eq-eqb _ _ s.0)
 
-pub returns-else-flag-eq1 : goal.returns-else-flag-eq1
+pub returns-in-None : goal.returns-in-None
 unfolding bodies
-returns-else-flag-eq1 c = rw (bodies, ne_eqb _ _ c.if-flag-eq1.false)
+returns-in-None c = rw (bodies, body_none c.args.rec (sym c.body.ensures ∙ c.in-None.is))

@@ -1,14 +1,15 @@
-use borrow.Author.Tests.{eq-eqb, ne_eqb}
+use mathlib.Core.Path.{sym, ◌∙◌}
+use borrow.Author.Tests.{eq-eqb}
 use Rattle.book.specs.Scope.{body_scope}
+use Rattle.records.proofs.BodyLaws.{body_some, body_none}
 use Rattle.scope.proofs.body_scope.Goals as goal
 
-pub part_scope-requires : goal.part_scope-requires
-part_scope-requires c = (c.requires.0, c.requires.1 c.if-flag-eq1.true)
-
-pub returns-then-flag-eq1 : goal.returns-then-flag-eq1
+pub returns-in-Some : goal.returns-in-Some
 unfolding body_scope
-returns-then-flag-eq1 c = λ d h. rw (body_scope, eq-eqb _ _ c.if-flag-eq1.true) (c.part_scope.ensures d (h c.if-flag-eq1.true))
+returns-in-Some c = λ d h.
+    let s = body_some c.args.rec _ (sym c.body.ensures ∙ c.in-Some.is) in
+    rw (body_scope, eq-eqb _ _ s.0, s.1) (c.part_scope.ensures d (rw s.1 at h s.0))
 
-pub returns-else-flag-eq1 : goal.returns-else-flag-eq1
+pub returns-in-None : goal.returns-in-None
 unfolding body_scope
-returns-else-flag-eq1 c = λ d h. rw (body_scope, ne_eqb _ _ c.if-flag-eq1.false)
+returns-in-None c = λ d h. rw (body_scope, body_none c.args.rec (sym c.body.ensures ∙ c.in-None.is))

@@ -1,4 +1,3 @@
-use mathlib.Core.Path.{◌≡◌, sym, ap, ◌∙◌}
 use Rattle.book.specs.Scan.{lower}
 use Rattle.scope.proofs.LowestLaws.{lower_min}
 use Rattle.scope.proofs.lower.Goals as goal

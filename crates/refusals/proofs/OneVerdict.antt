@@ -3,7 +3,7 @@ use mathlib.Core.List.{List}
 use mathlib.Core.Path.{◌≡◌, sym, ◌∙◌, ap}
 use Prim.Native.Nat.{ℕ}
 use lib.ListN.{length}
-use Rattle.book.specs.declared.Verdict.{Verdict}
+use Rattle.book.specs.Scan.{Verdict}
 use Rattle.book.specs.Refusals.{room_fits, verdict, verdict_numbers}
 use Rattle.refusals.specs.Passes.{words_after}
 

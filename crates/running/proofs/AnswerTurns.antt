@@ -6,6 +6,7 @@ use Prim.Native.Nat.{ℕ, suc, ◌+◌, ◌-◌, ◌/◌, ◌≤◌, ◌<◌}
 use native.Mathlib.Omega.{arith}
 use native.Mathlib.Decide.{dec_lt}
 use lib.Dec.{eqb}
+use mir.Val.{bool_byte}
 use lib.ListN.{length}
 use borrow.Author.Tests.{eq-eqb, ne_eqb}
 use Rattle.machine.specs.declared.Limit.{Limit}
@@ -50,6 +51,20 @@ counted_more y b supposed e = rw e (go supposed)
         (record { units = y.units + 1; answers = y.answers + 1; assumed = elim x [ true ↦ y.assumed + 1 | false ↦ y.assumed ] })
     go true = rw (u, a, s) refl
     go false = rw (u, a) refl
+
+-- as the code says it: the flag as a number is added
+pub more_by_flag : (y : Tally) (supposed : Bool) (n : ℕ) → n ≡ bool_byte supposed
+    → ◌≡◌ {A = Tally} (record { units = y.units + 1; answers = y.answers + 1; assumed = y.assumed + n }) (one_more y supposed)
+unfolding one_more
+more_by_flag y supposed n e = rw e (go supposed)
+  where
+    z : y.assumed + 0 ≡ y.assumed
+    z = omega arith
+
+    go : (x : Bool) → ◌≡◌ {A = Tally} (record { units = y.units + 1; answers = y.answers + 1; assumed = y.assumed + bool_byte x })
+        (record { units = y.units + 1; answers = y.answers + 1; assumed = elim x [ true ↦ y.assumed + 1 | false ↦ y.assumed ] })
+    go true = refl
+    go false = rw z refl
 
 -- at most as many assumed answers as answers
 more_assumed : (y : Tally) (supposed : Bool) → y.assumed ≤ y.answers → (one_more y supposed).assumed ≤ (one_more y supposed).answers

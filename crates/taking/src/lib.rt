@@ -16,9 +16,9 @@ ghost use Rattle.taking.specs.Takes.{cell_of, Room, in_hand, and_words, and_regs
 use book::Kind;
 use branch::Back;
 use following::Followed;
+use index::Head;
 use machine::{Ending, Limit};
 use returning::Reached;
-use index::Head;
 use seeking::Place;
 use steps::Regs;
 use words::{Book, Words};

@@ -1,16 +1,19 @@
-use mathlib.Core.Path.{◌≡◌, refl, sym, ◌∙◌}
+use mathlib.Core.Path.{◌≡◌, refl, sym, ◌∙◌, ap}
 use native.Mathlib.Omega.{arith}
-use lib.ListN.{length}
+use lib.ListN.{length, replicate}
 use Rattle.book.specs.Records.{records}
 use Rattle.refusals.proofs.PassLaws.{size_says, size_refused, size_taken}
-use Rattle.refusals.proofs.WordLaws.{refused_is, book_refused, book_fine}
+use Rattle.refusals.proofs.WordLaws.{refusing_is, book_refused, book_fine}
 use borrow.Author.Rules.{rules}
+use Rattle.std.proofs.Common.{is_err}
 use Rattle.refusals.proofs.book_tests.Goals as goal
 
 pub returns-then-not-size_fits : goal.returns-then-not-size_fits
 returns-then-not-size_fits c =
-    let e = size_refused c.args.book.now (sym c.size_fits.ensures ∙ c.if-not-size_fits.true) in
-    (e, book_refused c.args.book.now c.args.ws.now _ _ e _ (refused_is 2 0) refl c.clear.ensures)
+    let e = c.refuse.ensures ∙ size_refused c.args.book.now (sym c.size_fits.ensures ∙ c.if-not-size_fits.true) in
+    let f = refusing_is _ ∙ ap is_err c.refuse.ensures in
+    let z : c.fill.new.self ≡ replicate (length c.args.ws.now) 0 = search rules in
+    (e, book_refused c.args.book.now c.args.ws.now _ _ e _ f refl z)
 
 pub overflow_cast-book : goal.overflow_cast-book
 overflow_cast-book c = let z = size_says _ (sym c.size_fits.ensures ∙ c.if-not-size_fits.false) in omega arith
@@ -19,15 +22,16 @@ pub record_tests-v-requires : goal.record_tests-v-requires
 unfolding records
 record_tests-v-requires c = (sym c.size_fits.ensures ∙ c.if-not-size_fits.false, refl, c.requires)
 
-pub returns-then-not-refuses : goal.returns-then-not-refuses
-returns-then-not-refuses c =
+pub returns-then-is_err : goal.returns-then-is_err
+returns-then-is_err c =
     let e = c.record_tests-v.ensures.0 ∙ size_taken _ (sym c.size_fits.ensures ∙ c.if-not-size_fits.false) in
-    let f = sym c.refuses.ensures ∙ c.if-not-refuses.true in
-    (e, book_fine c.args.book.now c.args.ws.now _ _ e f (c.record_tests-v.ensures.1 f))
-
-pub returns : goal.returns
-returns c =
-    let e = c.record_tests-v.ensures.0 ∙ size_taken _ (sym c.size_fits.ensures ∙ c.if-not-size_fits.false) in
-    let f = sym c.refuses.ensures ∙ c.if-not-refuses.false in
+    let f = refusing_is _ ∙ sym c.is_err.ensures.value ∙ c.if-is_err.true in
     let l : length c.record_tests-v.new.ws ≡ length c.args.ws.now = search rules in
-    (e, book_refused c.args.book.now c.args.ws.now _ _ e _ f l c.clear-2.ensures)
+    let z : c.fill-then-is_err.new.self ≡ replicate (length c.record_tests-v.new.ws) 0 = search rules in
+    (e, book_refused c.args.book.now c.args.ws.now _ _ e _ f l z)
+
+pub returns-else-is_err : goal.returns-else-is_err
+returns-else-is_err c =
+    let e = c.record_tests-v.ensures.0 ∙ size_taken _ (sym c.size_fits.ensures ∙ c.if-not-size_fits.false) in
+    let f = refusing_is _ ∙ sym c.is_err.ensures.value ∙ c.if-is_err.false in
+    (e, book_fine c.args.book.now c.args.ws.now _ _ e f (c.record_tests-v.ensures.1 f))

@@ -1,13 +1,6 @@
-use Rattle.refusals.proofs.PassLaws.{never}
 use mathlib.Core.Path.{sym, ◌∙◌}
 use Rattle.targets.proofs.WithinLaws.{clause_within}
 use Rattle.refusals.proofs.clause_passes.Goals as goal
 
 pub clause_targets-requires : goal.clause_targets-requires
 clause_targets-requires c = clause_within _ c.args.i c.args.r c.requires (sym c.clause_fits.ensures ∙ c.if-clause_fits.true)
-
-pub returns-then-clause_fits : goal.returns-then-clause_fits
-returns-then-clause_fits c = λ b. (sym c.clause_fits.ensures ∙ c.if-clause_fits.true, sym c.clause_targets.ensures ∙ b)
-
-pub returns-else-clause_fits : goal.returns-else-clause_fits
-returns-else-clause_fits c = λ b. never b

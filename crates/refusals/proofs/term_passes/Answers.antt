@@ -1,16 +1,10 @@
 use mathlib.Core.Path.{sym, ◌∙◌}
 use Rattle.targets.proofs.WithinLaws.{term_within}
-use Rattle.refusals.proofs.PassLaws.{bare_passes, never}
+use Rattle.refusals.proofs.PassLaws.{bare_passes}
 use Rattle.refusals.proofs.term_passes.Goals as goal
 
 pub returns-then-r-eq0 : goal.returns-then-r-eq0
-returns-then-r-eq0 c = λ b. bare_passes _ c.args.i c.args.r c.if-r-eq0.true (sym c.zero_from_3.ensures ∙ b)
+returns-then-r-eq0 c = λ b. bare_passes _ c.args.i c.args.r c.if-r-eq0.true (sym c.zero_from.ensures ∙ b)
 
 pub term_targets-requires : goal.term_targets-requires
 term_targets-requires c = term_within _ c.args.i c.args.r c.requires (sym c.term_fits.ensures ∙ c.if-term_fits.true)
-
-pub returns-then-term_fits : goal.returns-then-term_fits
-returns-then-term_fits c = λ b. (sym c.term_fits.ensures ∙ c.if-term_fits.true, sym c.term_targets.ensures ∙ b)
-
-pub returns-else-term_fits : goal.returns-else-term_fits
-returns-else-term_fits c = λ b. never b

@@ -1,6 +1,5 @@
-use Rattle.running.specs.Turns.{one_more}
+use Rattle.running.proofs.AnswerTurns.{more_by_flag}
 use Rattle.running.proofs.count_answer.Goals as goal
 
 pub returns : goal.returns
-unfolding one_more
-returns c = ?
+returns c = more_by_flag _ _ _ c.from.ensures

@@ -2,7 +2,11 @@ use mathlib.Core.Path.{◌≡◌, ◌∙◌}
 use lib.ListN.{length}
 use Rattle.engine.proofs.AcceptedLaws.{run_ready, run_done}
 use borrow.Author.Rules.{rules}
+use Rattle.words.proofs.FromAccepted.{readable}
 use Rattle.engine.proofs.run_accepted.Goals as goal
+
+pub invariant_of-counted_run : goal.invariant_of-counted_run
+invariant_of-counted_run c = record { readable = readable _ c.requires.accepted }
 
 pub counted_run-run-requires : goal.counted_run-run-requires
 counted_run-run-requires c =

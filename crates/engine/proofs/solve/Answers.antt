@@ -1,4 +1,6 @@
 use Rattle.engine.proofs.VerdictLaws.{refused, taken_ready, taken}
+use mathlib.Core.Path.{◌≡◌}
+use Rattle.machine.specs.Call.{no_counts}
 use borrow.Author.Rules.{rules}
 use Rattle.engine.proofs.solve.Goals as goal
 
@@ -8,7 +10,7 @@ run_accepted-requires c =
 
 pub returns-in-Err : goal.returns-in-Err
 returns-in-Err c =
-    let v = c.tests.ensures in let t = refused _ c.args.budget _ c.args.workspace.now c.args.out.now _ _ _ v.0 c.in-Err.is v.1 in record { value = t.0; workspace_after = t.1.0; out_after = t.1.1 }
+    let v = c.tests.ensures in let t = refused _ c.args.budget _ c.args.workspace.now c.args.out.now _ _ _ v.0 c.in-Err.is v.1 in let d : c.default.result ≡ no_counts = search rules in record { value = rw d t.0; workspace_after = t.1.0; out_after = t.1.1 }
 
 pub returns-in-Ok : goal.returns-in-Ok
 returns-in-Ok c =

@@ -1,4 +1,3 @@
-use native.Mathlib.Omega.{arith}
 use Rattle.taking.specs.Takes.{or_regs}
 use Rattle.branch.proofs.KeepLaws.{flag_small}
 use Rattle.taking.proofs.WrittenLaws.{or_written}

@@ -30,14 +30,7 @@ pub fn counted_run(book: &Book, ws: &mut Words, out: &mut [u8], wanted: u32, bud
     requires { Ready book.now.bytes.now ws.old out.old wanted budget no_counts }
     ensures { After book.now.bytes.now ws.old out.old wanted budget no_counts result.ending result.tally ws.new out.new }
 {
-    let mut tally = Tally {
-        units: 0,
-        answers: 0,
-        assumed: 0,
-    };
+    let mut tally = Tally::default();
     let ending = lent_run(book, ws, out, wanted, budget, &mut tally);
-    Ran {
-        ending: ending,
-        tally: tally,
-    }
+    Ran { ending, tally }
 }

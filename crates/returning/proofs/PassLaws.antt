@@ -175,10 +175,6 @@ inv_start {book} {ws} {x = x} {left = left} term F S = record {
 }
 
 module _ {book ws₀ ws : List ℕ} {k : ℕ} {x : Back} {left : ℕ} {term : Option ℕ} where
-  -- the memo where the search is asked
-  pub inv_memo : (y : Back) (used n : ℕ) → PassInv book ws₀ ws k x left term y used → Memo book ws₀ x.programs n → (m : ℕ) × Memo book ws y.programs m
-  inv_memo y used n I M = (n, rw I.programs (I.memo.1 n M))
-
   -- the search has written the memo
   pub inv_sought : {ws' : List ℕ} (y : Back) (used : ℕ) → PassInv book ws₀ ws k x left term y used → MemoStays book y.programs ws ws' → PassInv book ws₀ ws' k x left term y used
   inv_sought y used I M = record {

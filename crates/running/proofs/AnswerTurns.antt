@@ -6,6 +6,7 @@ use Prim.Native.Nat.{ℕ, suc, ◌+◌, ◌-◌, ◌/◌, ◌≤◌, ◌<◌}
 use native.Mathlib.Omega.{arith}
 use native.Mathlib.Decide.{dec_lt}
 use lib.Dec.{eqb}
+use mir.Val.{bool_byte}
 use lib.ListN.{length}
 use borrow.Author.Tests.{eq-eqb, ne_eqb}
 use Rattle.machine.specs.declared.Limit.{Limit}
@@ -22,8 +23,7 @@ use Rattle.seeking.proofs.MemoLaws.{memo_kept}
 use Rattle.steps.specs.declared.Regs.{Regs}
 use Rattle.steps.specs.Search.{run_out, run_on, tops_of, back_regs, Stands.going_back}
 use Rattle.steps.proofs.RunLaws.{at_thread}
-use Rattle.answers.specs.declared.Answered.{Answered}
-use Rattle.answers.specs.declared.Answered.TheVariants as answered
+use Rattle.std.proofs.Common.{Ok, Err, Result as Answered}
 use Rattle.answers.specs.Buffer.{answer_for, reply_of, buffer_after}
 use Rattle.answers.proofs.CallerLaws.{Given, Given.given, Given.stopped, gives}
 use Rattle.running.specs.declared.Turned.TheVariants.{On, Over}
@@ -51,6 +51,20 @@ counted_more y b supposed e = rw e (go supposed)
         (record { units = y.units + 1; answers = y.answers + 1; assumed = elim x [ true ↦ y.assumed + 1 | false ↦ y.assumed ] })
     go true = rw (u, a, s) refl
     go false = rw (u, a) refl
+
+-- as the code says it: the flag as a number is added
+pub more_by_flag : (y : Tally) (supposed : Bool) (n : ℕ) → n ≡ bool_byte supposed
+    → ◌≡◌ {A = Tally} (record { units = y.units + 1; answers = y.answers + 1; assumed = y.assumed + n }) (one_more y supposed)
+unfolding one_more
+more_by_flag y supposed n e = rw e (go supposed)
+  where
+    z : y.assumed + 0 ≡ y.assumed
+    z = omega arith
+
+    go : (x : Bool) → ◌≡◌ {A = Tally} (record { units = y.units + 1; answers = y.answers + 1; assumed = y.assumed + bool_byte x })
+        (record { units = y.units + 1; answers = y.answers + 1; assumed = elim x [ true ↦ y.assumed + 1 | false ↦ y.assumed ] })
+    go true = refl
+    go false = rw z refl
 
 -- at most as many assumed answers as answers
 more_assumed : (y : Tally) (supposed : Bool) → y.assumed ≤ y.answers → (one_more y supposed).assumed ≤ (one_more y supposed).answers
@@ -118,7 +132,7 @@ module _ (book : List ℕ) (unknowns wanted size budget : ℕ) (ws ws' out out' 
       ∙ unit_answered (request_of unknowns wanted size) (budget - (y.units + 1)) H.branch H.rest y M.lines (list_empty c H.branch_is.goals)
       ∙ ap (λ z. Then (write y.answers z (size / 8 - length M.lines) [] (unknown_terms unknowns))) H.branch_is.store
 
-  cut_by : (m : Limit) (w : Written) (a : Answered) → Given size M.lines out' w a → a ≡ answered.Cut m → whole ≡ Then w
+  cut_by : (m : Limit) (w : Written) (a : Answered ℕ Limit) → Given size M.lines out' w a → a ≡ Err m → whole ≡ Then w
       → TurnGives book unknowns wanted size budget ws' out' r y whole (Over (Stopped m) y)
   cut_by m (cut k) a (stopped o) q e =
       let i : k ≡ m = cc in
@@ -126,7 +140,7 @@ module _ (book : List ℕ) (unknowns wanted size budget : ℕ) (ws ws' out out' 
       turns_over (ap (λ z. z.ending) x) (ap (λ z. z.tally) x) (o ∙ ap (λ z. filled_buffer size z.lines) (sym x))
   cut_by m (written ls) a (given g h o) q e = absurd_answer (cc)
 
-  enough_by : (k : ℕ) (z : Tally) (w : Written) (a : Answered) → Given size M.lines out' w a → a ≡ answered.Written k → whole ≡ Then w → z ≡ one_more y r.supposed → z.answers ≡ wanted
+  enough_by : (k : ℕ) (z : Tally) (w : Written) (a : Answered ℕ Limit) → Given size M.lines out' w a → a ≡ Ok k → whole ≡ Then w → z ≡ one_more y r.supposed → z.answers ≡ wanted
       → TurnGives book unknowns wanted size budget ws' out' r y whole (Over Enough z)
   unfolding one_more
   enough_by k z (written ls) a (given g h o) q e p u =
@@ -135,7 +149,7 @@ module _ (book : List ℕ) (unknowns wanted size budget : ℕ) (ws ws' out out' 
       turns_over (ap (λ t. t.ending) x) (ap (λ t. t.tally) x ∙ sym p) (o ∙ ap (λ t. filled_buffer size t.lines) (sym x))
   enough_by k z (cut m) a (stopped o) q e p u = absurd_answer (cc)
 
-  more_by : (k : ℕ) (z : Tally) (w : Written) (a : Answered) → Given size M.lines out' w a → a ≡ answered.Written k → whole ≡ Then w → z ≡ one_more y r.supposed → (z.answers ≡ wanted → ⊥)
+  more_by : (k : ℕ) (z : Tally) (w : Written) (a : Answered ℕ Limit) → Given size M.lines out' w a → a ≡ Ok k → whole ≡ Then w → z ≡ one_more y r.supposed → (z.answers ≡ wanted → ⊥)
       → TurnGives book unknowns wanted size budget ws' out' r y whole (On z (back_regs r) k)
   unfolding one_more back_regs
   more_by k z (written ls) a (given {e = j} g h o) q e p u =
@@ -164,16 +178,16 @@ module _ (book : List ℕ) (unknowns wanted size budget : ℕ) (ws ws' out out' 
   more_by k z (cut m) a (stopped o) q e p u = absurd_answer (cc)
 
   -- what write_answer gives
-  module _ (a : Answered) (re : a ≡ reply_of end (answer_for book r.made ws out end y.answers unknowns)) (be : out' ≡ buffer_after out end (answer_for book r.made ws out end y.answers unknowns)) where
+  module _ (a : Answered ℕ Limit) (re : a ≡ reply_of end (answer_for book r.made ws out end y.answers unknowns)) (be : out' ≡ buffer_after out end (answer_for book r.made ws out end y.answers unknowns)) where
     G : Given size M.lines out' W a
     G = gives size M.lines M.room book r.made ws y.answers unknowns out out' end a M.buffer M.end_is re be
 
-    pub answer_cut : (m : Limit) → a ≡ answered.Cut m → TurnGives book unknowns wanted size budget ws' out' r y whole (Over (Stopped m) y)
+    pub answer_cut : (m : Limit) → a ≡ Err m → TurnGives book unknowns wanted size budget ws' out' r y whole (Over (Stopped m) y)
     answer_cut m q = cut_by m W a G q whole_is
 
-    pub answer_enough : (k : ℕ) (z : Tally) → a ≡ answered.Written k → z ≡ one_more y r.supposed → z.answers ≡ wanted → TurnGives book unknowns wanted size budget ws' out' r y whole (Over Enough z)
+    pub answer_enough : (k : ℕ) (z : Tally) → a ≡ Ok k → z ≡ one_more y r.supposed → z.answers ≡ wanted → TurnGives book unknowns wanted size budget ws' out' r y whole (Over Enough z)
     answer_enough k z q p u = enough_by k z W a G q whole_is p u
 
-    pub answer_more : (k : ℕ) (z : Tally) (x : Regs) → a ≡ answered.Written k → z ≡ one_more y r.supposed → (z.answers ≡ wanted → ⊥) → x ≡ back_regs r
+    pub answer_more : (k : ℕ) (z : Tally) (x : Regs) → a ≡ Ok k → z ≡ one_more y r.supposed → (z.answers ≡ wanted → ⊥) → x ≡ back_regs r
         → TurnGives book unknowns wanted size budget ws' out' r y whole (On z x k)
     answer_more k z x q p u xe = rw xe (more_by k z W a G q whole_is p u)

@@ -32,9 +32,9 @@ module _ (r : Regs) where
   unfolding answer_due
   due_hand t s e = rw (answer_due, s) e
 
-  pub due_back : r.solving ≡ false → false ≡ answer_due r
+  pub due_back : r.solving ≡ false → r.solving ≡ answer_due r
   unfolding answer_due
-  due_back s = rw (answer_due, s) refl
+  due_back s = s ∙ rw (answer_due, s) refl
 
   pub due_yes : (t : Bool) → t ≡ answer_due r → t ≡ true → (r.solving ≡ true) × (r.cell ≡ 0)
   unfolding answer_due

@@ -13,18 +13,25 @@ ghost use Rattle.machine.specs.Machine.{Thread};
 ghost use Rattle.returning.specs.Reaching.{ReachContract, MemoReached};
 ghost use Rattle.running.specs.Turns.{answer_due, Taken, Midway, TurnGives, one_more, turn_by};
 
-use answers::Answered;
 use machine::{Ending, Limit, Tally};
 use returning::Reached;
 use steps::{Regs, Stepped};
 use words::{Book, Words};
 
 // A turn of the run: it goes on, with the tally, the registers and the end of what is written; or it has ended.
-// The tally stands at the same place in both, as the units in `Stepped`.
+// An enum of its own: neither case is a failure, and the tally stands at the same place in both, as the units in `Stepped`.
 #[derive(Clone, Copy)]
 pub enum Turned {
     On(Tally, Regs, usize),
     Over(Ending, Tally),
+}
+
+// What a run is asked for: answers for so many unknowns, so many of them, within so many units.
+#[derive(Clone, Copy)]
+struct Asked {
+    pub unknowns: u32,
+    pub wanted: u32,
+    pub budget: u32,
 }
 
 // How a run ended, and its tally.
@@ -41,8 +48,7 @@ fn spend(y: Tally, used: u32) -> Tally
 {
     Tally {
         units: y.units + used,
-        answers: y.answers,
-        assumed: y.assumed,
+        ..y
     }
 }
 
@@ -51,17 +57,10 @@ fn count_answer(y: Tally, supposed: bool) -> Tally
     requires { (y.units + 1 < 4294967296) × (y.answers < 64) × (y.assumed ≤ y.answers) }
     ensures { result ≡ one_more y supposed }
 {
-    if supposed {
-        return Tally {
-            units: y.units + 1,
-            answers: y.answers + 1,
-            assumed: y.assumed + 1,
-        };
-    }
     Tally {
         units: y.units + 1,
         answers: y.answers + 1,
-        assumed: y.assumed,
+        assumed: y.assumed + u32::from(supposed),
     }
 }
 
@@ -84,23 +83,21 @@ fn answer(
     r: Regs,
     y: Tally,
     end: usize,
-    unknowns: u32,
-    wanted: u32,
-    budget: u32,
+    asked: Asked,
 ) -> Turned
-    requires taken { Taken book.now.bytes.now unknowns wanted (length out.old) }
-    requires midway { (whole : Result) × Midway book.now.bytes.now unknowns wanted (length out.old) budget ws.old out.old r y end whole }
-    requires solving_value { (r.solving ≡ true) × (r.cell ≡ 0) × (y.units < budget) }
-    ensures { (whole : Result) → Midway book.now.bytes.now unknowns wanted (length out.old) budget ws.old out.old r y end whole
-        → TurnGives book.now.bytes.now unknowns wanted (length out.old) budget ws.new out.new r y whole result }
+    requires taken { Taken book.now.bytes.now asked.unknowns asked.wanted (length out.old) }
+    requires midway { (whole : Result) × Midway book.now.bytes.now asked.unknowns asked.wanted (length out.old) asked.budget ws.old out.old r y end whole }
+    requires solving_value { (r.solving ≡ true) × (r.cell ≡ 0) × (y.units < asked.budget) }
+    ensures { (whole : Result) → Midway book.now.bytes.now asked.unknowns asked.wanted (length out.old) asked.budget ws.old out.old r y end whole
+        → TurnGives book.now.bytes.now asked.unknowns asked.wanted (length out.old) asked.budget ws.new out.new r y whole result }
 {
     seeking::forget(ws, r.made);
     let k = y.answers as u16;
-    match answers::write_answer(book, r.made, ws, out, end, k, unknowns) {
-        Answered::Cut(m) => Turned::Over(Ending::Stopped(m), y),
-        Answered::Written(e) => {
+    match answers::write_answer(book, r.made, ws, out, end, k, asked.unknowns) {
+        Err(limit) => Turned::Over(Ending::Stopped(limit), y),
+        Ok(e) => {
             let z = count_answer(y, r.supposed);
-            if z.answers == wanted {
+            if z.answers == asked.wanted {
                 return Turned::Over(Ending::Enough, z);
             }
             Turned::On(z, steps::to_back(r), e)
@@ -112,10 +109,7 @@ fn answer(
 fn answer_due(r: Regs) -> bool
     ensures { result ≡ answer_due r }
 {
-    if r.solving {
-        return r.cell == 0;
-    }
-    false
+    r.solving && r.cell == 0
 }
 
 // Goes back; or, with a branch in hand, takes its next goal, if the budget has a unit left.
@@ -145,21 +139,19 @@ fn turn(
     r: Regs,
     y: Tally,
     end: usize,
-    unknowns: u32,
-    wanted: u32,
-    budget: u32,
+    asked: Asked,
 ) -> Turned
-    requires taken { Taken book.now.bytes.now unknowns wanted (length out.old) }
-    requires midway { (whole : Result) × Midway book.now.bytes.now unknowns wanted (length out.old) budget ws.old out.old r y end whole }
-    ensures { (whole : Result) → Midway book.now.bytes.now unknowns wanted (length out.old) budget ws.old out.old r y end whole
-        → TurnGives book.now.bytes.now unknowns wanted (length out.old) budget ws.new out.new r y whole result }
+    requires taken { Taken book.now.bytes.now asked.unknowns asked.wanted (length out.old) }
+    requires midway { (whole : Result) × Midway book.now.bytes.now asked.unknowns asked.wanted (length out.old) asked.budget ws.old out.old r y end whole }
+    ensures { (whole : Result) → Midway book.now.bytes.now asked.unknowns asked.wanted (length out.old) asked.budget ws.old out.old r y end whole
+        → TurnGives book.now.bytes.now asked.unknowns asked.wanted (length out.old) asked.budget ws.new out.new r y whole result }
 {
-    let left = budget - y.units;
+    let left = asked.budget - y.units;
     if answer_due(r) {
         if left == 0 {
             return Turned::Over(Ending::Stopped(Limit::Budget), y);
         }
-        return answer(book, ws, out, r, y, end, unknowns, wanted, budget);
+        return answer(book, ws, out, r, y, end, asked);
     }
     let o = reach(book, ws, r, left);
     let s = returning::go_on(book, ws, o, left);
@@ -186,17 +178,17 @@ pub fn run(
         × (result.tally ≡ (run_of book.now.bytes.now budget wanted (length out.old)).tally) }
     ensures out_after { out.new ≡ filled_buffer (length out.old) (run_of book.now.bytes.now budget wanted (length out.old)).lines }
 {
+    let asked = Asked {
+        unknowns,
+        wanted,
+        budget,
+    };
     let mut r = start;
     let mut y = tally;
     let mut end: usize = 0;
     loop {
-        match turn(book, ws, out, r, y, end, unknowns, wanted, budget) {
-            Turned::Over(e, z) => {
-                return Ran {
-                    ending: e,
-                    tally: z,
-                };
-            }
+        match turn(book, ws, out, r, y, end, asked) {
+            Turned::Over(ending, tally) => return Ran { ending, tally },
             Turned::On(z, s, e) => {
                 r = s;
                 y = z;

@@ -7,6 +7,7 @@ ghost use Rattle.branch.specs.State.{own_run};
 ghost use Rattle.index.specs.Index.{IndexedFrom};
 ghost use Rattle.starting.specs.Start.{start_words, start_regs, Ready, After};
 
+use index::Run;
 use machine::Tally;
 use running::Ran;
 use steps::Regs;
@@ -17,10 +18,7 @@ fn index_own(book: &Book, ws: &mut Words)
     requires accepted { Accepted book.now.bytes.now }
     ensures { IndexedFrom book.now.bytes.now (own_run book.now.bytes.now).first (own_run book.now.bytes.now).count 0 ws.old ws.new }
 {
-    let last = book.last();
-    let first = book.field(last, 1);
-    let n = book.field(last, 2);
-    index::make_index(book, ws, first, n);
+    index::make_index(book, ws, Run::read(book, book.last()));
 }
 
 // The question's goal is put into the first goal cell, and its unknowns are the variables that are made.

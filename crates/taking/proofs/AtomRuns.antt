@@ -7,8 +7,8 @@ use Rattle.book.specs.Records.{field}
 use Rattle.book.specs.Kinds.{kind_at, atom_kind}
 use Rattle.book.proofs.Accepted.{Formed}
 use Rattle.machine.specs.Machine.{Thread, solving, entering, Branch, Force, candidates, try_all, took}
-use Rattle.seeking.specs.declared.Candidate.{Candidate}
-use Rattle.seeking.specs.declared.Candidate.TheVariants.{At, Nothing}
+use Rattle.seeking.specs.declared.Place.{Place}
+use Rattle.std.proofs.Common.{Option, Some, None}
 use Rattle.branch.specs.declared.Back.{Back}
 use Rattle.branch.specs.State.{IsClause, IsProgram}
 use Rattle.seeking.specs.Seeking.{Sought, Sought.sought, Sought.no_more}
@@ -29,17 +29,17 @@ use Rattle.taking.proofs.HandLaws.{Hand}
 use Rattle.taking.proofs.TakeRuns.{cell_here}
 
 -- WHAT THE CODE FINDS
-module _ (book ws : List ℕ) (r : Regs) (x : Cell) (f m : ℕ) (o : Candidate) (fe : f ≡ field book x.goal 1) (me : m ≡ field book x.goal 2)
+module _ (book ws : List ℕ) (r : Regs) (x : Cell) (f m : ℕ) (o : Option Place) (fe : f ≡ field book x.goal 1) (me : m ≡ field book x.goal 2)
     (S : (program : List Force) → IsProgram book ws r.made r.programs x.program program → Sought book ws r.made r.programs f m program o) where
   found_here : (program : List Force) → IsProgram book ws r.made r.programs x.program program
       → Sought book ws r.made r.programs (field book x.goal 1) (field book x.goal 2) program o
   found_here program P = rw (fe, me) at (S program P)
 
-  pub atom_at : (q i : ℕ) (y : Back) → o ≡ At q i → y ≡ atom_kept r x q i → AtomTaken book ws r x (Clause 1 y r.alternatives)
+  pub atom_at : (p : Place) (y : Back) → o ≡ Some p → y ≡ atom_kept r x p.program p.clause → AtomTaken book ws r x (Clause 1 y r.alternatives)
   unfolding atom_reached
-  atom_at q i y e z = record { candidate = o; found = found_here; is = rw (e, z) refl }
+  atom_at p y e z = record { candidate = o; found = found_here; is = rw (e, z) refl }
 
-  pub atom_none : (y : Regs) → o ≡ Nothing → y ≡ back_regs r → AtomTaken book ws r x (ReachedOn 1 y)
+  pub atom_none : (y : Regs) → o ≡ None → y ≡ back_regs r → AtomTaken book ws r x (ReachedOn 1 y)
   unfolding atom_reached
   atom_none y e z = record { candidate = o; found = found_here; is = rw (e, z) refl }
 
@@ -93,13 +93,13 @@ module _ (book : List ℕ) (F : Formed book) (ws : List ℕ) (r : Regs) (left : 
         is = refl;
       }
 
-  by_candidate : (o : Candidate) → Sought book ws r.made r.programs (field book X.g 1) (field book X.g 2) X.program o
+  by_candidate : (o : Option Place) → Sought book ws r.made r.programs (field book X.g 1) (field book X.g 2) X.program o
       → ReachGives book ws ws r left (solving x ∷ threads) (atom_reached r here o)
   unfolding atom_reached try_all
-  by_candidate (At q i) (sought {c = f} {after = after} a b c) =
-      reach_clause {x = atom_kept r here q i} {k = r.alternatives} {used = 1} h (omega arith) (leaves_none ws) (atom_clause q i f after a b)
+  by_candidate (Some p) (sought {c = f} {after = after} a b c) =
+      reach_clause {x = atom_kept r here p.program p.clause} {k = r.alternatives} {used = 1} h (omega arith) (leaves_none ws) (atom_clause p.program p.clause f after a b)
       (unit_gives left (solving x) threads h _ (atom_unit book F (tops_of r) ws r.cell r.taken r.supposed x H.sound H.branch X k l _ c))
-  by_candidate Nothing (no_more c) = reach_on (atom_fails c)
+  by_candidate None (no_more c) = reach_on (atom_fails c)
 
   pub atom_steps : (y : Reached) → AtomTaken book ws r here y → ReachGives book ws ws r left (solving x ∷ threads) y
   atom_steps y T = rw T.is (by_candidate T.candidate (T.found X.program X.program_is))

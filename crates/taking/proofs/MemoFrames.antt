@@ -10,8 +10,8 @@ use Rattle.machine.specs.declared.Ending.{Ending}
 use Rattle.machine.specs.Machine.{Thread}
 use Rattle.words.specs.Words.{term_word}
 use Rattle.branch.specs.declared.Back.{Back}
-use Rattle.seeking.specs.declared.Candidate.{Candidate}
-use Rattle.seeking.specs.declared.Candidate.TheVariants.{At, Nothing}
+use Rattle.seeking.specs.declared.Place.{Place}
+use Rattle.std.proofs.Common.{Option, Some, None}
 use Rattle.branch.specs.State.{put_cell}
 use Rattle.branch.specs.Alternatives.{keep_words}
 use Rattle.seeking.specs.Memo.{Memo, MemoOnly, MemoStays}
@@ -68,10 +68,10 @@ unfolding MemoReached
 memo_ended book ws left e used = tt
 
 module _ (book ws : List ℕ) (r : Regs) (x : Cell) (left : ℕ) (M : Memo book ws r.programs left) where
-  by_candidate : (ws' : List ℕ) → Memo book ws' r.programs left → (o : Candidate) → MemoReached book ws' left (atom_reached r x o)
+  by_candidate : (ws' : List ℕ) → Memo book ws' r.programs left → (o : Option Place) → MemoReached book ws' left (atom_reached r x o)
   unfolding MemoReached atom_reached atom_kept back_regs
-  by_candidate ws' N (At q i) = memo_less (omega arith) (omega arith) N
-  by_candidate ws' N Nothing = memo_less (omega arith) (omega arith) N
+  by_candidate ws' N (Some p) = memo_less (omega arith) (omega arith) N
+  by_candidate ws' N None = memo_less (omega arith) (omega arith) N
 
   pub memo_atom : (ws' : List ℕ) (o : Reached) → AtomTaken book ws r x o → MemoStays book r.programs ws ws' → MemoReached book ws' left o
   memo_atom ws' o T S = rw T.is (by_candidate ws' (S.1 left M) T.candidate)

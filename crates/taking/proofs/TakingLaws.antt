@@ -5,7 +5,7 @@ use mathlib.Core.Bool.{true, false}
 use mathlib.Core.List.{List, ◌∷◌}
 use Prim.Native.Nat.{ℕ, ◌+◌, ◌-◌, ◌*◌, ◌/◌, ◌%◌, ◌≤◌, ◌<◌}
 use native.Mathlib.Omega.{arith}
-use lib.ListN.{length, get_or}
+use lib.ListN.{get_or}
 use Rattle.book.specs.Records.{field, records}
 use Rattle.book.specs.Kinds.{Kind, variable_kind, term_kind, link_kind, atom_kind, and_kind, or_kind, suppose_kind, clause_kind, tie_kind, question_kind, no_kind, kind_of, kind_at, is_goal}
 use Rattle.book.proofs.Accepted.{Accepted, Formed}
@@ -100,8 +100,8 @@ module _ (book : List ℕ) (ws : List ℕ) (r : Regs) (threads : List Thread) (T
   cell_below : r.cell < 1026
   cell_below = omega (arith, T.cell.below, T.hand.sound.cells_most)
 
-  cell_ready : (r.cell < 1026) × (length ws ≡ 16384) × (4096 ≤ get_or ws (6144 + 2 * r.cell) 0)
-  cell_ready = (cell_below, T.hand.sound.slots.size, rw T.cell.word (pack_large T.cell.g T.cell.b))
+  cell_ready : (r.cell < 1026) × (4096 ≤ get_or ws (6144 + 2 * r.cell) 0)
+  cell_ready = (cell_below, rw T.cell.word (pack_large T.cell.g T.cell.b))
 
   -- the code reads the cell
   cell_read : cell_of ws r.cell ≡ cell_here_lem
@@ -129,7 +129,7 @@ module _ (book ws : List ℕ) (r : Regs) (s : r.solving ≡ true) (c : 0 < r.cel
   abbrev face_some : Facing book ws r some.0
   face_some = facing s c some.1
 
-  pub read_ready : (r.cell < 1026) × (length ws ≡ 16384) × (4096 ≤ get_or ws (6144 + 2 * r.cell) 0)
+  pub read_ready : (r.cell < 1026) × (4096 ≤ get_or ws (6144 + 2 * r.cell) 0)
   read_ready = cell_ready book ws r some.0 face_some
 
   module _ (x : Cell) (xe : x ≡ cell_of ws r.cell) where

@@ -4,8 +4,8 @@ use Rattle.book.specs.Records.{field, records}
 use Rattle.machine.specs.Machine.{Force}
 use Rattle.words.specs.Words.{term_word}
 use Rattle.branch.specs.declared.Back.{Back}
-use Rattle.seeking.specs.declared.Candidate.{Candidate}
-use Rattle.seeking.specs.declared.Candidate.TheVariants.{At, Nothing}
+use Rattle.seeking.specs.declared.Place.{Place}
+use Rattle.std.specs.Prelude.{Option, Some, None}
 use Rattle.branch.specs.State.{IsProgram, put_cell, flag}
 use Rattle.seeking.specs.Seeking.{Sought}
 use Rattle.branch.specs.Alternatives.{keep_words}
@@ -107,12 +107,12 @@ atom_kept r x q i = record {
   index = i;
 }
 
-unfoldable pub atom_reached : Regs → Cell → Candidate → Reached
-atom_reached r x (At q i) = Clause 1 (atom_kept r x q i) r.alternatives
-atom_reached r x Nothing = Onward 1 (back_regs r)
+unfoldable pub atom_reached : Regs → Cell → Option Place → Reached
+atom_reached r x (Some p) = Clause 1 (atom_kept r x p.program p.clause) r.alternatives
+atom_reached r x None = Onward 1 (back_regs r)
 
 pub record AtomTaken (book ws : List ℕ) (r : Regs) (x : Cell) (y : Reached) : Type 0 where
-  pub candidate : Candidate
+  pub candidate : Option Place
   pub found : (program : List Force) → IsProgram book ws r.made r.programs x.program program
       → Sought book ws r.made r.programs (field book x.goal 1) (field book x.goal 2) program candidate
   pub is : y ≡ atom_reached r x candidate

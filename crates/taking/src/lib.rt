@@ -5,7 +5,7 @@ ghost use Rattle.std.specs.Prelude.{◌≡◌, true, ℕ, ◌+◌, ◌-◌, ◌*
 ghost use Rattle.words.specs.Readable.{HasArguments};
 ghost use Rattle.book.specs.Records.{records};
 ghost use Rattle.book.proofs.Accepted.{Accepted, Formed};
-ghost use Rattle.branch.specs.State.{OwnReady, flag};
+ghost use Rattle.branch.specs.State.{OwnReady};
 ghost use Rattle.seeking.specs.Seeking.{AllIndexed, Standing};
 ghost use Rattle.seeking.specs.Memo.{Memo, MemoStays};
 ghost use Rattle.machine.specs.Machine.{Thread};
@@ -13,11 +13,13 @@ ghost use Rattle.steps.specs.Search.{Stands};
 ghost use Rattle.returning.specs.Reaching.{ReachContract, MemoReached};
 ghost use Rattle.taking.specs.Takes.{cell_of, Room, in_hand, and_words, and_regs, or_words, or_regs, put_program, suppose_words, suppose_regs, atom_kept, AtomTaken, PlainAhead, plain_words, plain_regs};
 
+use book::Kind;
 use branch::Back;
 use following::Followed;
+use index::Head;
 use machine::{Ending, Limit};
 use returning::Reached;
-use seeking::Candidate;
+use seeking::Place;
 use steps::Regs;
 use words::{Book, Words};
 
@@ -37,12 +39,12 @@ fn read_cell(ws: &Words, c: u32) -> Cell
     ensures { result ≡ cell_of ws.now c }
 {
     let at = (6144 + 2 * c) as usize;
-    let w = ws[at];
+    let word = ws[at];
     let v = ws[at + 1];
     Cell {
-        word: w,
-        goal: w / 4096 - 1,
-        base: w % 4096,
+        word,
+        goal: word / 4096 - 1,
+        base: word % 4096,
         program: v / 4096,
         next: v % 4096,
     }
@@ -54,15 +56,14 @@ fn in_hand(r: Regs, cell: u32, programs: u32, alternatives: u32, supposed: bool)
     ensures { result ≡ in_hand r cell programs alternatives supposed }
 {
     Regs {
-        made: r.made,
-        trail: r.trail,
         cells: cell + 1,
-        programs: programs,
-        alternatives: alternatives,
-        cell: cell,
+        programs,
+        alternatives,
+        cell,
         taken: r.taken + 1,
-        supposed: supposed,
+        supposed,
         solving: true,
+        ..r
     }
 }
 
@@ -79,16 +80,6 @@ fn take_and(book: &Book, ws: &mut Words, r: Regs, x: Cell) -> Regs
     branch::put_cell(ws, cells, 4096 * (right + 1) + x.base, x.program, x.next);
     branch::put_cell(ws, cells + 1, 4096 * (left + 1) + x.base, x.program, cells);
     in_hand(r, cells + 1, r.programs, r.alternatives, r.supposed)
-}
-
-// 1 if a suppose goal was taken, as it is kept with an alternative.
-fn flag_of(supposed: bool) -> u32
-    ensures { result ≡ flag supposed }
-{
-    if supposed {
-        return 1;
-    }
-    0
 }
 
 // Takes an or goal: the right goal is put and kept as an alternative, then the left one is put.
@@ -108,7 +99,7 @@ fn take_or(book: &Book, ws: &mut Words, r: Regs, x: Cell) -> Regs
         programs: r.programs,
         cell: cells,
         taken: r.taken + 1,
-        supposed: flag_of(r.supposed),
+        supposed: u32::from(r.supposed),
         atom: 0,
         call: 0,
         node: 0,
@@ -147,10 +138,10 @@ fn take_suppose(book: &Book, ws: &mut Words, r: Regs, x: Cell, left: u32) -> Reg
     in_hand(r, cells, program + 1, r.alternatives, true)
 }
 
-// The numbers for the atom of cell x with the candidate that is clause i of program q.
-fn at_clause(r: Regs, x: Cell, q: u32, i: u32) -> Back
+// The numbers for the atom of cell x with the candidate at this place.
+fn at_place(r: Regs, x: Cell, place: Place) -> Back
     requires { r.taken < 512 }
-    ensures { result ≡ atom_kept r x q i }
+    ensures { result ≡ atom_kept r x place.program place.clause }
 {
     Back {
         made: r.made,
@@ -159,11 +150,11 @@ fn at_clause(r: Regs, x: Cell, q: u32, i: u32) -> Back
         programs: r.programs,
         cell: x.next,
         taken: r.taken + 1,
-        supposed: flag_of(r.supposed),
+        supposed: u32::from(r.supposed),
         atom: x.word,
         call: x.program,
-        node: q,
-        index: i,
+        node: place.program,
+        index: place.clause,
     }
 }
 
@@ -172,12 +163,7 @@ fn most_rules(taken: u32, left: u32) -> u32
     requires { taken ≤ 512 }
     ensures { (taken + result ≤ 512) × (2 * result ≤ left) }
 {
-    let by_goals = 512 - taken;
-    let by_units = left / 2;
-    if by_goals < by_units {
-        return by_goals;
-    }
-    by_units
+    (512 - taken).min(left / 2)
 }
 
 // Follows plain rules from the goal of cell x, if its program is the question's own.
@@ -206,15 +192,11 @@ fn take_plain(ws: &mut Words, r: Regs, x: Cell, p: Followed) -> Regs
     let cell = r.cells;
     branch::put_cell(ws, cell, 4096 * (p.goal + 1) + r.made, x.program, x.next);
     Regs {
-        made: r.made,
-        trail: r.trail,
         cells: cell + 1,
-        programs: r.programs,
-        alternatives: r.alternatives,
-        cell: cell,
+        cell,
         taken: r.taken + p.rules,
-        supposed: r.supposed,
         solving: true,
+        ..r
     }
 }
 
@@ -228,11 +210,10 @@ fn take_atom(book: &Book, ws: &mut Words, r: Regs, x: Cell) -> Reached
     ensures atom_taken { AtomTaken book.now.bytes.now ws.old r x result }
     ensures memo_stays { MemoStays book.now.bytes.now r.programs ws.old ws.new }
 {
-    let f = book.field(x.goal, 1);
-    let m = book.field(x.goal, 2);
-    match seeking::seek_first(book, r.made, ws, r.programs, x.program, f, m) {
-        Candidate::At(q, i) => Reached::Clause(1, at_clause(r, x, q, i), r.alternatives),
-        Candidate::Nothing => Reached::Onward(1, steps::to_back(r)),
+    let head = Head::read(book, x.goal);
+    match seeking::seek_first(book, r.made, ws, r.programs, x.program, head) {
+        Some(place) => Reached::Clause(1, at_place(r, x, place), r.alternatives),
+        None => Reached::Onward(1, steps::to_back(r)),
     }
 }
 
@@ -250,23 +231,19 @@ pub fn take(book: &Book, ws: &mut Words, r: Regs, left: u32) -> Reached
     }
     let x = read_cell(ws, r.cell);
     let kind = book.field(x.goal, 0);
-    // Below 5 a goal is an atom. With `kind == 4` the compiler makes one switch of all kinds, and asks for an atom last.
-    if kind < 5 {
+    // Below an and-goal's kind a goal is an atom. With a match, or `==`, the compiler makes one switch of all kinds, and asks for an atom last.
+    if kind < Kind::And as u32 {
         let p = plain_ahead(book, ws, r, x, left);
         if 0 < p.rules {
-            let y = take_plain(ws, r, x, p);
-            return Reached::Onward(2 * p.rules, y);
+            return Reached::Onward(2 * p.rules, take_plain(ws, r, x, p));
         }
         return take_atom(book, ws, r, x);
     }
-    if kind == 5 {
-        let y = take_and(book, ws, r, x);
-        return Reached::Onward(1, y);
+    if kind == Kind::And as u32 {
+        return Reached::Onward(1, take_and(book, ws, r, x));
     }
-    if kind == 6 {
-        let y = take_or(book, ws, r, x);
-        return Reached::Onward(1, y);
+    if kind == Kind::Or as u32 {
+        return Reached::Onward(1, take_or(book, ws, r, x));
     }
-    let y = take_suppose(book, ws, r, x, left);
-    Reached::Onward(1, y)
+    Reached::Onward(1, take_suppose(book, ws, r, x, left))
 }

@@ -14,5 +14,5 @@ read-head-requires c = atom_inside _ _ _ _ _ c.requires.to_clause.1
 pub seek_after-requires : goal.seek_after-requires
 seek_after-requires c = let p = c.requires in let X = p.to_clause.1 in record { formed = (p.accepted.0.formed, own_ready _ p.accepted.0, p.accepted.1); candidate = candidate_here _ _ _ _ _ X _ _ _ refl c.read-head.ensures.0 c.read-head.ensures.1; few = (X.again.sound.programs_most, rw c.read-head.ensures.1 (atom_few _ _ _ _ _ X c.args.book.now.readable)); by_index = p.by_index }
 
-pub returns : goal.returns
-returns c = let X = c.requires.to_clause.1 in let e = c.seek_after.ensures in record { next_is = next_only e.memo_stays.0 c.args.x X.again.sound.programs_most (next_is _ _ _ _ _ X _ _ _ refl c.read-head.ensures.0 c.read-head.ensures.1 _ e.sought); memo_stays = e.memo_stays }
+pub returns-clause-next_is : goal.returns-clause-next_is
+returns-clause-next_is c = let X = c.requires.to_clause.1 in let e = c.seek_after.ensures in next_only e.memo_stays.0 c.args.x X.again.sound.programs_most (next_is _ _ _ _ _ X _ _ _ refl c.read-head.ensures.0 c.read-head.ensures.1 _ e.sought)

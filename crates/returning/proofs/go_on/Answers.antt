@@ -9,8 +9,11 @@ use Rattle.returning.specs.Reentry.{regs_kept}
 use borrow.Author.Rules.{rules}
 use Rattle.returning.proofs.go_on.Goals as goal
 
-pub try_all-s-requires : goal.try_all-s-requires
-try_all-s-requires c = let p = c.requires in let s = clause_asked _ _ _ _ p.can_go_on c.in-Clause.is in record { accepted = (p.accepted, s.1); to_clause = s.2; memo = memo_asked _ _ _ _ _ _ _ c.in-Clause.is p.memo_reached }
+pub try_all-s-requires-clause-accepted : goal.try_all-s-requires-clause-accepted
+try_all-s-requires-clause-accepted c = let p = c.requires in (p.accepted, (clause_asked _ _ _ _ p.can_go_on c.in-Clause.is).1)
+
+pub try_all-s-requires-clause-memo : goal.try_all-s-requires-clause-memo
+try_all-s-requires-clause-memo c = memo_asked _ _ _ _ _ _ _ c.in-Clause.is c.requires.memo_reached
 
 pub later-requires : goal.later-requires
 later-requires c = let p = c.requires in let s = clause_asked _ _ _ _ p.can_go_on c.in-Clause.is in let h : c.args.left < 4294967296 = search rules in let u = units_most (c.try_all-s.ensures.tries (regs_kept c.in-Clause.x 0 false) s.2.0 refl s.2.1) in omega (arith, u, s.0, h)

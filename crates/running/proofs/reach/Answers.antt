@@ -1,6 +1,5 @@
 use native.Mathlib.Omega.{arith}
 use borrow.Author.Tests.{not-true, not-false}
-use Rattle.words.proofs.FromAccepted.{readable}
 use Rattle.branch.proofs.FromScoped.{own_ready}
 use Rattle.running.proofs.StepTurns.{due_no, goal_spent}
 use Rattle.taking.proofs.MemoFrames.{memo_ended}

@@ -1,6 +1,5 @@
 use mathlib.Core.Path.{refl, sym, ◌∙◌}
 use native.Mathlib.Omega.{arith}
-use Rattle.words.proofs.FromAccepted.{readable}
 use Rattle.branch.proofs.FromScoped.{own_ready}
 use Rattle.returning.proofs.BackNeeds.{can_go_on}
 use Rattle.running.proofs.StepTurns.{due_yes, units_fit, step_turns, step_whole, budget_spent}

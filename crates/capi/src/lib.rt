@@ -2,36 +2,41 @@
 #![tactic(auto)]
 
 ghost use Rattle.std.specs.Prelude.{◌≡◌};
+ghost use Rattle.book.specs.Refusals.{test_number};
 ghost use Rattle.machine.specs.Call.{call};
-ghost use Rattle.machine.specs.Run.{ending_number};
 ghost use Rattle.capi.specs.Six.{reply_six};
 
-use machine::{Ending, Limit, Outcome, Reply};
+use book::Test;
+use machine::Reply;
 
-fn ending_number(e: Ending) -> u32
-    ensures { result ≡ ending_number e }
+#[tactic(auto, unfolding(book::specs::Refusals::test_number))]
+fn test_number(test: Test) -> u32
+    ensures { result ≡ test_number test }
 {
-    match e {
-        Ending::Complete => 0,
-        Ending::Enough => 1,
-        Ending::Stopped(l) => match l {
-            Limit::Budget => 2,
-            Limit::Goals => 3,
-            Limit::Variables => 4,
-            Limit::Lists => 5,
-            Limit::Buffer => 6,
-        },
-    }
+    test as u32
 }
 
 fn six(x: Reply) -> [u32; 6]
     ensures { result ≡ reply_six x }
 {
-    let outcome = x.outcome;
     let y = x.tally;
-    match outcome {
-        Outcome::Declined(t, r) => [t as u32, r as u32, 0, 0, 0, 0],
-        Outcome::Ended(e) => [0, 0, ending_number(e), y.answers, y.assumed, y.units],
+    match x.outcome {
+        Err(refusal) => [
+            test_number(refusal.test),
+            u32::from(refusal.failing),
+            0,
+            0,
+            0,
+            0,
+        ],
+        Ok(ending) => [
+            0,
+            0,
+            u32::from(ending),
+            y.answers,
+            y.assumed,
+            y.units,
+        ],
     }
 }
 

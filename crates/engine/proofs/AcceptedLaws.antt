@@ -5,7 +5,7 @@ use Prim.Native.Nat.{ℕ, ◌≤◌}
 use native.Mathlib.Omega.{arith}
 use lib.ListN.{length, replicate, length-replicate}
 use Rattle.book.proofs.Accepted.{Accepted}
-use Rattle.machine.specs.declared.Outcome.TheVariants.{Ended}
+use Rattle.std.proofs.Common.{Ok}
 use Rattle.machine.specs.Call.{no_counts, run_of, accepted}
 use Rattle.running.specs.declared.Ran.{Ran}
 use Rattle.starting.specs.Start.{Ready, After}
@@ -30,7 +30,7 @@ run_ready book wanted budget ws out out' A h z o =
 
 pub run_done : (book : List ℕ) (budget wanted m words size : ℕ) (x : Ran) (ws ws₁ out out₁ ws' : List ℕ)
     → After book ws out wanted budget no_counts x.ending x.tally ws₁ out₁ → length out ≡ size → ws' ≡ replicate m 0 → m ≡ words
-    → (record { outcome = Ended x.ending; tally = x.tally } ≡ (accepted words size (run_of book budget wanted size)).reply)
+    → (record { outcome = Ok x.ending; tally = x.tally } ≡ (accepted words size (run_of book budget wanted size)).reply)
     × ((ws' ≡ (accepted words size (run_of book budget wanted size)).workspace) × (out₁ ≡ (accepted words size (run_of book budget wanted size)).out))
 unfolding accepted
 run_done book budget wanted m words size x ws ws₁ out out₁ ws' F h z k = rw (← h, ← k) (rw (F.ending, F.tally) refl, (z, F.buffer))

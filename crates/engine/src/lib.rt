@@ -6,12 +6,11 @@ ghost use Rattle.book.proofs.Accepted.{Accepted};
 ghost use Rattle.machine.specs.Call.{call, run_of, accepted};
 ghost use Rattle.engine.specs.Opened.{Opened};
 
-use book::Verdict;
-use machine::{Outcome, Reply, Tally};
+use machine::{Reply, Tally};
+use words::{Book, Words};
 
 // What a run must find as zeros: the slots of the unknowns, and the words of the memo. Of the other words a run asks nothing.
-fn open_words(ws: &mut [u32])
-    requires { length ws.old ≡ 16384 }
+fn open_words(ws: &mut Words)
     ensures { Opened ws.new }
 {
     words::clear_words(ws, 0, 64);
@@ -26,15 +25,16 @@ fn run_accepted(book: &[u8], budget: u32, wanted: u32, ws: &mut [u32], out: &mut
     ensures ws_after { ws.new ≡ (accepted (length ws.old) (length out.old) (run_of book.now budget wanted (length out.old))).workspace }
     ensures out_after { out.new ≡ (accepted (length ws.old) (length out.old) (run_of book.now budget wanted (length out.old))).out }
 {
-    open_words(ws);
-    answers::clear(out);
-    let x = lending::counted_run(book, ws, out, wanted, budget);
-    pointing::clear(ws);
-    let ending = x.ending;
-    let tally = x.tally;
+    let Ok(words) = <&mut Words>::try_from(&mut *ws) else {
+        unreachable!()
+    };
+    open_words(words);
+    out.fill(0);
+    let run = lending::counted_run(&Book { bytes: book }, words, out, wanted, budget);
+    ws.fill(0);
     Reply {
-        outcome: Outcome::Ended(ending),
-        tally: tally,
+        outcome: Ok(run.ending),
+        tally: run.tally,
     }
 }
 
@@ -45,14 +45,10 @@ pub fn solve(book: &[u8], budget: u32, wanted: u32, workspace: &mut [u32], out: 
     ensures out_after { out.new ≡ (call book.now budget wanted workspace.old out.old).out }
 {
     match refusals::tests(book, workspace, out.len(), wanted) {
-        Verdict::Refused(t, r) => Reply {
-            outcome: Outcome::Declined(t, r),
-            tally: Tally {
-                units: 0,
-                answers: 0,
-                assumed: 0,
-            },
+        Err(refusal) => Reply {
+            outcome: Err(refusal),
+            tally: Tally::default(),
         },
-        Verdict::Fine => run_accepted(book, budget, wanted, workspace, out),
+        Ok(()) => run_accepted(book, budget, wanted, workspace, out),
     }
 }

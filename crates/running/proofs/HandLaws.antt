@@ -12,10 +12,8 @@ use Rattle.machine.specs.declared.Tally.{Tally}
 use Rattle.machine.specs.Machine.{Branch, Thread, solving, Todo, advance, solve}
 use Rattle.machine.specs.Answers.{Line, write, unknown_terms}
 use Rattle.machine.specs.Run.{Request, Result, answering, after, step}
-use Rattle.words.specs.Readable.{Readable}
 use Rattle.words.specs.Good.{Slots}
 use Rattle.words.specs.Frame.{Keeps}
-use Rattle.words.proofs.FromAccepted.{readable}
 use Rattle.words.proofs.FrameLaws.{fits_most}
 use Rattle.words.proofs.StackLaws.{keeps_narrow}
 use Rattle.branch.specs.State.{Tops, IsGoals, IsGoals.no_goals, IsGoals.goal_cell, IsBranch, Sound, Waiting, Agree}
@@ -67,9 +65,9 @@ answer_agree t {ws} S K =
       alternatives = keeps_narrow (omega arith) (omega (arith, S.alternatives_most)) K;
     }
 
--- the workspace has its words, and they have room for the variables made
-pub words_size : {book ws : List ℕ} {r : Regs} {threads : List Thread} → Stands book ws r threads → r.solving ≡ true → (r.made ≤ 2048) × (length ws ≡ 16384)
-words_size S s = let X = (hand S s).sound.slots in (X.room, X.size)
+-- the words have room for the variables made
+pub words_room : {book ws : List ℕ} {r : Regs} {threads : List Thread} → Stands book ws r threads → r.solving ≡ true → r.made ≤ 2048
+words_room S s = (hand S s).sound.slots.room
 
 -- AN ANSWER: before it is written, nothing is remembered any more in the words of its variables
 module _ (book : List ℕ) (unknowns wanted size budget : ℕ) (ws out : List ℕ) (r : Regs) (y : Tally) (end : ℕ) (whole : Result) (T : Taken book unknowns wanted size)
@@ -101,10 +99,11 @@ module _ (book : List ℕ) (unknowns wanted size budget : ℕ) (ws out : List �
   unknowns_few = rw T.unknowns_are (question_fields book T.accepted.formed.fields (last_record book) (last_below book T.accepted) (last_question book T.accepted)).3
 
   -- and the answer can be written
-  pub answer_ready : Readable book × (Slots book r.made ws₁ × (((unknowns ≤ r.made) × (unknowns ≤ 256) × (end ≤ size) × (size ≤ 65536)) × NoNumbers r.made ws₁))
+  pub answer_ready : Slots book r.made ws₁ × ((unknowns ≤ r.made) × (unknowns ≤ 256) × (end ≤ size) × (size ≤ 65536)) × NoNumbers r.made ws₁
   answer_ready =
       let X = (hand midway_forgets.stands s).sound in
       let u = unknowns_few in (
-        readable book T.accepted,
-        (X.slots, ((rw T.unknowns_are S.unknowns, omega arith, omega (arith, M.room, M.end_is), T.size_most), λ v l. rw e (forget_zero r.made ws S.slots.room S.slots.size (13568 + v) (omega arith) (omega arith)))),
+        X.slots,
+        (rw T.unknowns_are S.unknowns, omega arith, omega (arith, M.room, M.end_is), T.size_most),
+        λ v l. rw e (forget_zero r.made ws S.slots.room S.slots.size (13568 + v) (omega arith) (omega arith)),
       )

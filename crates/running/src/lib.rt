@@ -178,6 +178,7 @@ pub fn run(
         × (result.tally ≡ (run_of book.now.bytes.now budget wanted (length out.old)).tally) }
     ensures out_after { out.new ≡ filled_buffer (length out.old) (run_of book.now.bytes.now budget wanted (length out.old)).lines }
 {
+    // Put together here, for the turns: the one caller has the three one by one.
     let asked = Asked {
         unknowns,
         wanted,

@@ -153,23 +153,21 @@ module _ (book : List ℕ) (A : Accepted book) (ws : List ℕ) (size : length ws
 
 -- THE CODE OF THE START
 module _ (book : List ℕ) (A : Accepted book) where
-  pub last_ready : (1 ≤ length book / 16) × (length book / 16 - 1 < 4294967296) × (length book / 16 - 1 < records book)
+  pub last_ready : (0 < records book) × (last_record book < records book)
   unfolding records last_record
-  last_ready = let h = has_records book A in (h, omega (arith, (readable book A).size), last_below book A)
+  last_ready = (has_records book A, last_below book A)
 
-  pub set_up_done : (goal unknowns : ℕ) (ws ws' : List ℕ) → goal ≡ field book (length book / 16 - 1) 3 → unknowns ≡ field book (length book / 16 - 1) 4
+  pub set_up_done : (goal unknowns : ℕ) (ws ws' : List ℕ) → goal ≡ field book (last_record book) 3 → unknowns ≡ field book (last_record book) 4
       → ws' ≡ put_cell 1 (4096 * (goal + 1)) 0 0 ws
       → (record { made = unknowns; trail = 0; cells = 2; programs = 1; alternatives = 0; cell = 1; taken = 0; supposed = false; solving = true } ≡ start_regs book) × (ws' ≡ start_words book ws)
-  unfolding start_regs start_words term_word records last_record
-  set_up_done goal unknowns ws ws' a b e = (rw b refl, e ∙ rw (a, add-zero (4096 * (field book (length book / 16 - 1) 3 + 1))) refl)
+  unfolding start_regs start_words term_word
+  set_up_done goal unknowns ws ws' a b e = (rw b refl, e ∙ rw (a, add-zero (4096 * (field book (last_record book) 3 + 1))) refl)
 
-  pub run_clauses : (first n : ℕ) → first ≡ field book (length book / 16 - 1) 1 → n ≡ field book (length book / 16 - 1) 2 → ClauseRun book first n × ((first < 4096) × (n ≤ 1024))
-  unfolding records last_record
+  pub run_clauses : (first n : ℕ) → first ≡ field book (last_record book) 1 → n ≡ field book (last_record book) 2 → ClauseRun book first n × ((first < 4096) × (n ≤ 1024))
   run_clauses first n a b = let O = own_ready book A in rw (a, b) (O.run, (O.first_small, O.count_small))
 
-  pub own_indexed : (first n : ℕ) (ws ws' : List ℕ) → first ≡ field book (length book / 16 - 1) 1 → n ≡ field book (length book / 16 - 1) 2
+  pub own_indexed : (first n : ℕ) (ws ws' : List ℕ) → first ≡ field book (last_record book) 1 → n ≡ field book (last_record book) 2
       → IndexedFrom book first n 0 ws ws' → IndexedFrom book (own_run book).first (own_run book).count 0 ws ws'
-  unfolding records last_record
   own_indexed first n ws ws' a b I = rw (a, b) at I
 
 -- WHAT THE RUN ASKS FOR

@@ -1,12 +1,12 @@
-use Rattle.running.proofs.HandLaws.{words_size, midway_forgets, answer_ready}
+use Rattle.running.proofs.HandLaws.{words_room, midway_forgets, answer_ready}
 use Rattle.running.proofs.AnswerTurns.{answer_cut, answer_enough, answer_more}
 use Rattle.running.proofs.answer.Goals as goal
 
 pub forget-requires : goal.forget-requires
-forget-requires c = let p = c.requires in (words_size p.midway.1.stands p.solving_value.0).0
+forget-requires c = let p = c.requires in words_room p.midway.1.stands p.solving_value.0
 
 pub write_answer-requires : goal.write_answer-requires
-write_answer-requires c = let p = c.requires in let t = answer_ready _ _ _ _ _ _ _ _ _ _ _ p.taken p.midway.1 p.solving_value.0 _ c.forget.ensures in record { slots = t.1.0; unknowns_le_made = t.1.1.0; no_numbers = t.1.1.1 }
+write_answer-requires c = let p = c.requires in let t = answer_ready _ _ _ _ _ _ _ _ _ _ _ p.taken p.midway.1 p.solving_value.0 _ c.forget.ensures in record { slots = t.0; unknowns_le_made = t.1; no_numbers = t.2 }
 
 pub returns-then-z-asked : goal.returns-then-z-asked
 returns-then-z-asked c = let p = c.requires in let w = c.write_answer.ensures in λ whole M.

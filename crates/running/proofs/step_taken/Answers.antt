@@ -2,12 +2,6 @@ use mathlib.Core.Path.{refl}
 use Rattle.running.specs.Turns.{turn_by}
 use Rattle.running.proofs.step_taken.Goals as goal
 
-pub spend-requires : goal.spend-requires
-spend-requires c = rw c.in-Onward.is at c.requires
-
-pub spend-requires-in-Finished : goal.spend-requires-in-Finished
-spend-requires-in-Finished c = rw c.in-Finished.is at c.requires
-
 pub returns-in-Onward : goal.returns-in-Onward
 unfolding turn_by
 returns-in-Onward c = rw (c.in-Onward.is, c.spend.ensures) refl

@@ -19,9 +19,6 @@ plain_ahead-p-requires c = let p = c.requires in record { formed = (p.accepted.0
 pub take_plain-requires : goal.take_plain-requires
 take_plain-requires c = let p = c.requires in let a = c.plain_ahead-p.ensures c.if-p-gt0.true in record { goal_bound = ((in_book _ c.args.book.now.readable _ a.inside).1, a.goals); room = take_room _ _ _ p.solving_value.0 p.solving_value.1 p.stands _ c.read_cell-x.ensures c.args.book.now.readable (omega (arith, c.if-r-ge512.false)) }
 
-pub overflow_mul-result : goal.overflow_mul-result
-overflow_mul-result c = let a = c.plain_ahead-p.ensures c.if-p-gt0.true in omega (arith, a.goals)
-
 pub returns-then-p-gt0 : goal.returns-then-p-gt0
 returns-then-p-gt0 c = let p = c.requires in record { reach_contract = takes_plain _ p.accepted.0 _ _ _ p.solving_value.0 p.solving_value.1 p.solving_value.2 _ c.read_cell-x.ensures _ c.if-p-gt0.true (c.plain_ahead-p.ensures c.if-p-gt0.true) _ _ c.take_plain.ensures.ws_after c.take_plain.ensures.value; memo_reached = memo_plain _ _ _ _ _ p.memo (take_room _ _ _ p.solving_value.0 p.solving_value.1 p.stands _ c.read_cell-x.ensures c.args.book.now.readable (omega (arith, c.if-r-ge512.false))) _ _ _ c.take_plain.ensures.ws_after c.take_plain.ensures.value }
 

@@ -1,17 +1,16 @@
 -- Any two results that a contract allows agree. The tests and the reads of the book that they make.
 use mathlib.Core.Path.{◌≡◌, sym, ◌∙◌}
+use Prim.Native.Nat.{ℕ}
 use Rattle.fields.proofs.kind_fits.Reads as fields-kind-fits-reads
 use Rattle.fields.proofs.fields_fit.Reads as fields-fields-fit-reads
-use Rattle.fields.proofs.zero_from_2.Reads as fields-zero-from-2-reads
-use Rattle.fields.proofs.zero_from_3.Reads as fields-zero-from-3-reads
+use Rattle.fields.proofs.zero_from.Reads as fields-zero-from-reads
 use Rattle.fields.proofs.term_fits.Reads as fields-term-fits-reads
 use Rattle.fields.proofs.link_fits.Reads as fields-link-fits-reads
 use Rattle.fields.proofs.and_fits.Reads as fields-and-fits-reads
 use Rattle.fields.proofs.suppose_fits.Reads as fields-suppose-fits-reads
 use Rattle.fields.proofs.clause_fits.Reads as fields-clause-fits-reads
-use Rattle.pointing.proofs.clear.Reads as pointing-clear-reads
 use Rattle.pointing.proofs.tree_test.Reads as pointing-tree-test-reads
-use Rattle.records.proofs.wide.Reads as records-wide-reads
+use Rattle.records.proofs.body.Reads as records-body-reads
 use Rattle.records.proofs.read_record.Reads as records-read-record-reads
 use Rattle.records.proofs.record_at.Reads as records-record-at-reads
 use Rattle.records.proofs.number_at.Reads as records-number-at-reads
@@ -31,11 +30,9 @@ fields_kind_fits κs a r r' s s' p q = p ∙ sym q
 pub fields_fields_fit : (κs : _) (a : _) (r r' : _) (s s' : _) → fields-fields-fit-reads.Post κs a r s → fields-fields-fit-reads.Post κs a r' s' → r ≡ r'
 fields_fields_fit κs a r r' s s' p q = p ∙ sym q
 
-pub fields_zero_from_2 : (κs : _) (a : _) (r r' : _) (s s' : _) → fields-zero-from-2-reads.Post κs a r s → fields-zero-from-2-reads.Post κs a r' s' → r ≡ r'
-fields_zero_from_2 κs a r r' s s' p q = p ∙ sym q
-
-pub fields_zero_from_3 : (κs : _) (a : _) (r r' : _) (s s' : _) → fields-zero-from-3-reads.Post κs a r s → fields-zero-from-3-reads.Post κs a r' s' → r ≡ r'
-fields_zero_from_3 κs a r r' s s' p q = p ∙ sym q
+-- of each number K of a record
+pub fields_zero_from : (K : ℕ) (fits : _) (κs : _) (a : _) (r r' : _) (s s' : _) → fields-zero-from-reads.Post K fits κs a r s → fields-zero-from-reads.Post K fits κs a r' s' → r ≡ r'
+fields_zero_from K fits κs a r r' s s' p q = p ∙ sym q
 
 pub fields_term_fits : (κs : _) (a : _) (r r' : _) (s s' : _) → fields-term-fits-reads.Post κs a r s → fields-term-fits-reads.Post κs a r' s' → r ≡ r'
 fields_term_fits κs a r r' s s' p q = p ∙ sym q
@@ -52,14 +49,8 @@ fields_suppose_fits κs a r r' s s' p q = p ∙ sym q
 pub fields_clause_fits : (κs : _) (a : _) (r r' : _) (s s' : _) → fields-clause-fits-reads.Post κs a r s → fields-clause-fits-reads.Post κs a r' s' → r ≡ r'
 fields_clause_fits κs a r r' s s' p q = p ∙ sym q
 
-pub pointing_clear : (κs : _) (a : _) (r r' : _) (s s' : _) → pointing-clear-reads.Post κs a r s → pointing-clear-reads.Post κs a r' s' → s.0.now ≡ s'.0.now
-pointing_clear κs a r r' s s' p q = p ∙ sym q
-
 pub pointing_tree_test : (κs : _) (a : _) (r r' : _) (s s' : _) → pointing-tree-test-reads.Post κs a r s → pointing-tree-test-reads.Post κs a r' s' → (r ≡ r') × (s.1.0.now ≡ s'.1.0.now)
 pointing_tree_test κs a r r' s s' p q = (p.0 ∙ sym q.0, p.1 ∙ sym q.1)
-
-pub records_wide : (κs : _) (a : _) (r r' : _) (s s' : _) → records-wide-reads.Post κs a r s → records-wide-reads.Post κs a r' s' → r ≡ r'
-records_wide κs a r r' s s' p q = p ∙ sym q
 
 pub records_read_record : (κs : _) (a : _) (r r' : _) (s s' : _) → records-read-record-reads.Post κs a r s → records-read-record-reads.Post κs a r' s' → r ≡ r'
 records_read_record κs a r r' s s' p q = p ∙ sym q
@@ -72,6 +63,9 @@ records_number_at κs a r r' s s' p q = p ∙ sym q
 
 pub records_field : (κs : _) (a : _) (r r' : _) (s s' : _) → records-field-reads.Post κs a r s → records-field-reads.Post κs a r' s' → r ≡ r'
 records_field κs a r r' s s' p q = p ∙ sym q
+
+pub records_body : (κs : _) (a : _) (r r' : _) (s s' : _) → records-body-reads.Post κs a r s → records-body-reads.Post κs a r' s' → r ≡ r'
+records_body κs a r r' s s' p q = p ∙ sym q
 
 pub refusals_tests : (κs : _) (a : _) (r r' : _) (s s' : _) → refusals-tests-reads.Post κs a r s → refusals-tests-reads.Post κs a r' s' → (r ≡ r') × (s.1.0.now ≡ s'.1.0.now)
 refusals_tests κs a r r' s s' p q = (p.0 ∙ sym q.0, p.1 ∙ sym q.1)

@@ -1,11 +1,17 @@
 -- Any two results that a contract allows agree. The reads, the stacks and the bindings of a branch: every word of the workspace.
-use mathlib.Core.Path.{◌≡◌, sym, ◌∙◌, subst}
+use mathlib.Core.Path.{◌≡◌, refl, sym, ◌∙◌, ap, subst}
 use mathlib.Core.List.{List}
 use Prim.Native.Nat.{ℕ, ◌+◌, ◌-◌, ◌<◌}
 use native.Mathlib.Omega.{arith}
 use native.Mathlib.Decide.{dec_lt}
 use lib.Seq.{ext_get_or}
-use lib.ListN.{get_or}
+use lib.ListN.{length, get_or}
+use Rattle.std.proofs.Common.{Result, Ok, Err}
+use Rattle.book.specs.declared.Kind as code
+use Rattle.book.specs.declared.Kind.TheVariants.{Variable, Term, Link, Atom, And, Or, Suppose, Clause, Tie, Question}
+use Rattle.book.specs.declared.UnknownKind.{UnknownKind}
+use Rattle.book.specs.Kinds.{Kind, variable_kind, term_kind, link_kind, atom_kind, and_kind, or_kind, suppose_kind, clause_kind, tie_kind, question_kind, no_kind}
+use Rattle.book.specs.KindRead.{kind_read, KindRead}
 use Rattle.words.specs.Words.{term_w}
 use Rattle.index.specs.Index.{IndexedFrom}
 use Rattle.branch.proofs.open_again.Reads as branch-open-again-reads
@@ -21,18 +27,23 @@ use Rattle.supposed.proofs.next_of.Reads as supposed-next-of-reads
 use Rattle.supposed.proofs.is_supposed.Reads as supposed-is-supposed-reads
 use Rattle.steps.proofs.to_back.Reads as steps-to-back-reads
 use Rattle.following.proofs.follow.Reads as following-follow-reads
+use Rattle.index.proofs.Head.read.Reads as index-head-read-reads
+use Rattle.index.proofs.Run.read.Reads as index-run-read-reads
 use Rattle.index.proofs.head_matches.Reads as index-head-matches-reads
 use Rattle.index.proofs.head_bucket.Reads as index-head-bucket-reads
 use Rattle.index.proofs.clause_at.Reads as index-clause-at-reads
 use Rattle.index.proofs.first_match.Reads as index-first-match-reads
 use Rattle.index.proofs.match_after.Reads as index-match-after-reads
 use Rattle.words.proofs.clear_words.Reads as words-clear-words-reads
-use Rattle.words.proofs.index.Reads as words-index-reads
-use Rattle.words.proofs.field.Reads as words-field-reads
-use Rattle.words.proofs.word_for.Reads as words-word-for-reads
+use Rattle.words.proofs.Book.records.Reads as words-records-reads
+use Rattle.words.proofs.Book.last.Reads as words-last-reads
+use Rattle.words.proofs.Book.field.Reads as words-field-reads
+use Rattle.words.proofs.Book.kind.Reads as words-kind-reads
+use Rattle.words.proofs.Book.is.Reads as words-is-reads
+use Rattle.words.proofs.Book.word_for.Reads as words-word-for-reads
 use Rattle.words.proofs.push_terms.Reads as words-push-terms-reads
 use Rattle.words.proofs.bind.Reads as words-bind-reads
-use Rattle.words.proofs.symbol_and_count.Reads as words-symbol-and-count-reads
+use Rattle.words.proofs.Book.symbol_and_count.Reads as words-symbol-and-count-reads
 use Rattle.words.proofs.read_variable.Reads as words-read-variable-reads
 use Rattle.words.proofs.read_through.Reads as words-read-through-reads
 use Rattle.index.proofs.make_index.Reads as index-make-index-reads
@@ -76,6 +87,12 @@ supposed_next_of κs a r r' s s' p q = p.0 ∙ sym q.0
 pub supposed_is_supposed : (κs : _) (a : _) (r r' : _) (s s' : _) → supposed-is-supposed-reads.Post κs a r s → supposed-is-supposed-reads.Post κs a r' s' → r ≡ r'
 supposed_is_supposed κs a r r' s s' p q = p ∙ sym q
 
+pub index_Head_read : (κs : _) (a : _) (r r' : _) (s s' : _) → index-head-read-reads.Post κs a r s → index-head-read-reads.Post κs a r' s' → r ≡ r'
+index_Head_read κs a r r' s s' p q = λ i. record { symbol = (p.0 ∙ sym q.0) i; count = (p.1 ∙ sym q.1) i }
+
+pub index_Run_read : (κs : _) (a : _) (r r' : _) (s s' : _) → index-run-read-reads.Post κs a r s → index-run-read-reads.Post κs a r' s' → r ≡ r'
+index_Run_read κs a r r' s s' p q = λ i. record { first = (p.0 ∙ sym q.0) i; count = (p.1 ∙ sym q.1) i }
+
 pub index_head_matches : (κs : _) (a : _) (r r' : _) (s s' : _) → index-head-matches-reads.Post κs a r s → index-head-matches-reads.Post κs a r' s' → r ≡ r'
 index_head_matches κs a r r' s s' p q = p ∙ sym q
 
@@ -94,11 +111,60 @@ following_follow κs a r r' s s' p q = p ∙ sym q
 pub index_clause_at : (κs : _) (a : _) (r r' : _) (s s' : _) → index-clause-at-reads.Post κs a r s → index-clause-at-reads.Post κs a r' s' → r ≡ r'
 index_clause_at κs a r r' s s' p q = p ∙ sym q
 
-pub words_index : (κs : _) (a : _) (r r' : _) (s s' : _) → words-index-reads.Post κs a r s → words-index-reads.Post κs a r' s' → r ≡ r'
-words_index κs a r r' s s' p q = p ∙ sym q
+pub words_records : (κs : _) (a : _) (r r' : _) (s s' : _) → words-records-reads.Post κs a r s → words-records-reads.Post κs a r' s' → r ≡ r'
+words_records κs a r r' s s' p q = p ∙ sym q
+
+pub words_last : (κs : _) (a : _) (r r' : _) (s s' : _) → words-last-reads.Post κs a r s → words-last-reads.Post κs a r' s' → r ≡ r'
+words_last κs a r r' s s' p q = p ∙ sym q
 
 pub words_field : (κs : _) (a : _) (r r' : _) (s s' : _) → words-field-reads.Post κs a r s → words-field-reads.Post κs a r' s' → r ≡ r'
 words_field κs a r r' s s' p q = p.0 ∙ sym q.0
+
+-- words::Book::kind: the kind that a number is read as, and the number itself where no kind has it
+kind_back : Kind → Result code.Kind UnknownKind → Result code.Kind UnknownKind
+kind_back variable_kind r = Ok Variable
+kind_back term_kind r = Ok Term
+kind_back link_kind r = Ok Link
+kind_back atom_kind r = Ok Atom
+kind_back and_kind r = Ok And
+kind_back or_kind r = Ok Or
+kind_back suppose_kind r = Ok Suppose
+kind_back clause_kind r = Ok Clause
+kind_back tie_kind r = Ok Tie
+kind_back question_kind r = Ok Question
+kind_back no_kind r = r
+
+kind_again : (k : code.Kind) (r : Result code.Kind UnknownKind) → Ok k ≡ kind_back (kind_read (Ok k)) r
+unfolding kind_back
+kind_again Variable r = refl
+kind_again Term r = refl
+kind_again Link r = refl
+kind_again Atom r = refl
+kind_again And r = refl
+kind_again Or r = refl
+kind_again Suppose r = refl
+kind_again Clause r = refl
+kind_again Tie r = refl
+kind_again Question r = refl
+
+kind_same : (r : Result code.Kind UnknownKind) → kind_back (kind_read r) r ≡ r
+unfolding kind_back
+kind_same (Ok k) = sym (kind_again k (Ok k))
+kind_same (Err e) = refl
+
+one_kind : (k : code.Kind) (r : Result code.Kind UnknownKind) → kind_read (Ok k) ≡ kind_read r → Ok k ≡ r
+one_kind k r e = kind_again k r ∙ ap (λ (x : Kind). kind_back x r) e ∙ kind_same r
+
+same_kind : (n : ℕ) (r r' : Result code.Kind UnknownKind) → KindRead n r → KindRead n r' → r ≡ r'
+same_kind n (Ok k) r p q = one_kind k r (p.0 ∙ sym q.0)
+same_kind n (Err e) (Ok k) p q = sym (one_kind k (Err e) (q.0 ∙ sym p.0))
+same_kind n (Err e) (Err f) p q = λ i. Err (record { 0 = (p.1 ∙ sym q.1) i })
+
+pub words_kind : (κs : _) (a : _) (r r' : _) (s s' : _) → words-kind-reads.Post κs a r s → words-kind-reads.Post κs a r' s' → r ≡ r'
+words_kind κs a r r' s s' p q = same_kind _ r r' p q
+
+pub words_is : (κs : _) (a : _) (r r' : _) (s s' : _) → words-is-reads.Post κs a r s → words-is-reads.Post κs a r' s' → r ≡ r'
+words_is κs a r r' s s' p q = p ∙ sym q
 
 pub words_symbol_and_count : (κs : _) (a : _) (r r' : _) (s s' : _) → words-symbol-and-count-reads.Post κs a r s → words-symbol-and-count-reads.Post κs a r' s' → r ≡ r'
 words_symbol_and_count κs a r r' s s' p q = p.0 ∙ sym q.0
@@ -114,14 +180,14 @@ words_bind κs a r r' s s' p q = p ∙ sym q
 
 -- words::read_variable, words::read_through: the same term. Two words can stand for one term, where the book says it twice; which of them is given is the exception.
 pub words_read_variable : (κs : _) (a : _) (r r' : _) (s s' : _) → words-read-variable-reads.Post κs a r s → words-read-variable-reads.Post κs a r' s'
-    → term_w a.0.now r ≡ term_w a.0.now r'
+    → term_w a.0.now.bytes.now r ≡ term_w a.0.now.bytes.now r'
 words_read_variable κs a r r' s s' p q = sym p.walked ∙ q.walked
 
 pub words_read_through : (κs : _) (a : _) (r r' : _) (s s' : _) → words-read-through-reads.Post κs a r s → words-read-through-reads.Post κs a r' s'
-    → term_w a.0.now r ≡ term_w a.0.now r'
+    → term_w a.0.now.bytes.now r ≡ term_w a.0.now.bytes.now r'
 words_read_through κs a r r' s s' p q = sym p.walked ∙ q.walked
 
--- index::make_index: every word is the index's or as it was
+-- index::make_index: every word is the index's or as it was. There are 16,384, the length of the array type.
 index_word : (book : List ℕ) (first n : ℕ) (ws v w : List ℕ) → IndexedFrom book first n 0 ws v → IndexedFrom book first n 0 ws w → (k : ℕ) → k < 16384 → get_or v k 0 ≡ get_or w k 0
 index_word book first n ws v w p q k h = go (dec_lt k 4096) (dec_lt k 5120) (dec_lt k (5120 + n))
   where
@@ -132,6 +198,6 @@ index_word book first n ws v w p q k h = go (dec_lt k 4096) (dec_lt k 5120) (dec
         subst (λ (j : ℕ). get_or v j 0 ≡ get_or w j 0) (omega arith) (p.nexts (k - 5120) (omega arith) (omega arith) ∙ sym (q.nexts (k - 5120) (omega arith) (omega arith)))
     go (no a) (no b) (no c) = p.above.same k (omega arith) h ∙ sym (q.above.same k (omega arith) h)
 
-pub index_make_index : (κs : _) (a : _) (r r' : _) (s s' : _) → index-make-index-reads.Pre κs a → index-make-index-reads.Post κs a r s → index-make-index-reads.Post κs a r' s'
-    → s.1.0.now ≡ s'.1.0.now
-index_make_index κs a r r' s s' h p q = ext_get_or 0 _ _ (p.below.size ∙ sym q.below.size) (λ k i. index_word _ _ _ _ _ _ p q k (subst (λ (n : ℕ). k < n) (p.below.size ∙ h.1.1.2) i))
+pub index_make_index : (κs : _) (a : _) (r r' : _) (s s' : _) → index-make-index-reads.Post κs a r s → index-make-index-reads.Post κs a r' s'
+    → length a.1.0.now ≡ 16384 → s.1.0.now ≡ s'.1.0.now
+index_make_index κs a r r' s s' p q h = ext_get_or 0 _ _ (p.below.size ∙ sym q.below.size) (λ k i. index_word _ _ _ _ _ _ p q k (subst (λ (n : ℕ). k < n) (p.below.size ∙ h) i))

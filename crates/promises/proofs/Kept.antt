@@ -6,9 +6,10 @@ use Prim.Native.Nat.{ℕ}
 use native.Mathlib.Omega.{arith}
 use lib.ListN.{length, replicate}
 use borrow.Author.Tests.{ne_eqb}
-use Rattle.book.specs.declared.Verdict.{Verdict}
-use Rattle.book.specs.declared.Verdict.TheVariants.{Fine, Refused}
-use Rattle.book.specs.Refusals.{verdict_numbers}
+use Rattle.std.proofs.Common.{Ok, Err}
+use Rattle.book.specs.declared.Refusal.{Refusal}
+use Rattle.book.specs.Scan.{Verdict, fine}
+use Rattle.book.specs.Refusals.{test_number, verdict_numbers}
 use Rattle.machine.specs.declared.Reply.{Reply}
 use Rattle.machine.specs.Call.{Called, call, run_of, accepted, declined, reply_numbers}
 use Rattle.machine.proofs.CallLaws.{call_taken, call_refused, units_within}
@@ -23,24 +24,24 @@ absurd_numbers {ℓ} : {X : Type ℓ} → ◌≡◌ {A = ℕ} 0 1 → X
 absurd_numbers z = absurd (omega arith)
 
 -- a verdict by its numbers
-refused_by : (v : Verdict) (t r : ℕ) → verdict_numbers v ≡ t ∷ r ∷ [] → v ≡ Refused t r
+refused_by : (v : Verdict) (t r : ℕ) → verdict_numbers v ≡ t ∷ r ∷ [] → (e : Refusal) × (v ≡ Err e) × (test_number e.test ≡ t) × (e.failing ≡ r)
 unfolding verdict_numbers
-refused_by Fine t r e = absurd_numbers (cc)
-refused_by (Refused u q) t r e = cc
+refused_by (Ok u) t r e = absurd_numbers (cc)
+refused_by (Err x) t r e = (x, refl, cc, cc)
 
-fine_by : (v : Verdict) → verdict_numbers v ≡ [] → v ≡ Fine
+fine_by : (v : Verdict) → verdict_numbers v ≡ [] → v ≡ fine
 unfolding verdict_numbers
-fine_by Fine e = refl
-fine_by (Refused t r) e = absurd_numbers (cc)
+fine_by (Ok u) e = refl
+fine_by (Err x) e = absurd_numbers (cc)
 
 -- the words after refusal 1 and after any other
-first_words : (ws out : List ℕ) (t r : ℕ) → t ≡ 1 → (declined ws out t r).workspace ≡ ws
+first_words : (ws out : List ℕ) (x : Refusal) → test_number x.test ≡ 1 → (declined ws out x).workspace ≡ ws
 unfolding declined
-first_words ws out t r e = rw e refl
+first_words ws out x e = rw (declined, e) refl
 
-other_words : (ws out : List ℕ) (t r : ℕ) → t ≢ 1 → (declined ws out t r).workspace ≡ replicate (length ws) 0
+other_words : (ws out : List ℕ) (x : Refusal) → test_number x.test ≢ 1 → (declined ws out x).workspace ≡ replicate (length ws) 0
 unfolding declined
-other_words ws out t r n = rw (declined, ne_eqb t 1 n) refl
+other_words ws out x n = rw (declined, ne_eqb (test_number x.test) 1 n) refl
 
 module _ (book : List ℕ) (budget wanted : ℕ) (ws out : List ℕ) (reply : Reply) (ws' out' : List ℕ) (h : Allowed book budget wanted ws out reply ws' out') where
   -- the result is the definition's
@@ -54,25 +55,33 @@ module _ (book : List ℕ) (budget wanted : ℕ) (ws out : List ℕ) (reply : Re
     same_bytes = λ other v o g. h.bytes ∙ sym g.bytes;
   }
 
-  module _ (t r : ℕ) (e : verdict_on book wanted ws out ≡ Refused t r) where
-    is_declined : record { reply = reply; workspace = ws'; out = out' } ≡ declined ws out t r
-    is_declined = is_call ∙ call_refused book budget wanted ws out t r e
+  module _ (x : Refusal) (e : verdict_on book wanted ws out ≡ Err x) where
+    is_declined : record { reply = reply; workspace = ws'; out = out' } ≡ declined ws out x
+    is_declined = is_call ∙ call_refused book budget wanted ws out x e
 
-    refused_leaves : Leaves book budget wanted ws out reply ws' out' t r
+    refused_leaves : Leaves book budget wanted ws out reply ws' out' (test_number x.test) x.failing
     unfolding declined
     refused_leaves = record {
-      outcome = ap (λ (c : Called). c.reply.outcome) is_declined;
+      outcome = (x, ap (λ (c : Called). c.reply.outcome) is_declined, refl, refl);
       counts = ap (λ (c : Called). c.reply.tally) is_declined;
-      words_of_first = λ q. ap (λ (c : Called). c.workspace) is_declined ∙ first_words ws out t r q;
-      words_of_others = λ n. ap (λ (c : Called). c.workspace) is_declined ∙ other_words ws out t r n;
+      words_of_first = λ q. ap (λ (c : Called). c.workspace) is_declined ∙ first_words ws out x q;
+      words_of_others = λ n. ap (λ (c : Called). c.workspace) is_declined ∙ other_words ws out x n;
       bytes = ap (λ (c : Called). c.out) is_declined;
     }
 
-    numbers_declined : reply_numbers reply ≡ t ∷ r ∷ []
+    numbers_declined : reply_numbers reply ≡ test_number x.test ∷ x.failing ∷ []
     unfolding declined reply_numbers
     numbers_declined = ap (λ (c : Called). reply_numbers c.reply) is_declined
 
-  module _ (e : verdict_on book wanted ws out ≡ Fine) where
+  -- a refusal by its numbers
+  module _ (t r : ℕ) (e : verdict_numbers (verdict_on book wanted ws out) ≡ t ∷ r ∷ []) where
+    numbers_said : reply_numbers reply ≡ t ∷ r ∷ []
+    numbers_said = let x = refused_by _ t r e in rw (x.2, x.3) at (numbers_declined x.0 x.1)
+
+    leaves_said : Leaves book budget wanted ws out reply ws' out' t r
+    leaves_said = let x = refused_by _ t r e in rw (x.2, x.3) at (refused_leaves x.0 x.1)
+
+  module _ (e : verdict_on book wanted ws out ≡ fine) where
     is_accepted : record { reply = reply; workspace = ws'; out = out' } ≡ accepted (length ws) (length out) (run_of book budget wanted (length out))
     is_accepted = is_call ∙ call_taken book budget wanted ws out e
 
@@ -93,14 +102,14 @@ module _ (book : List ℕ) (budget wanted : ℕ) (ws out : List ℕ) (reply : Re
   only_when_lem t r e = go (verdict_on book wanted ws out) refl
     where
       go : (v : Verdict) → verdict_on book wanted ws out ≡ v → verdict_numbers (verdict_on book wanted ws out) ≡ t ∷ r ∷ []
-      go Fine q = absurd_numbers (cc (as_the_machine q).numbers)
-      go (Refused u p) q = rw q (sym (numbers_declined u p q) ∙ e)
+      go (Ok u) q = absurd_numbers (cc (as_the_machine q).numbers)
+      go (Err x) q = rw q (sym (numbers_declined x q) ∙ e)
 
   demand_1 : Demand1 book budget wanted ws out reply ws' out'
   demand_1 = record {
     one = one_result;
-    exactly = record { when = λ t r e. numbers_declined t r (refused_by _ t r e); only_when = only_when_lem };
-    leaves = λ t r e. refused_leaves t r (refused_by _ t r e);
+    exactly = record { when = numbers_said; only_when = only_when_lem };
+    leaves = leaves_said;
   }
 
   demand_2 : Demand2 book budget wanted ws out reply ws' out'

@@ -5,12 +5,12 @@ use mathlib.Core.List.{List, [], ◌∷◌}
 use Prim.Native.Nat.{ℕ, suc}
 use native.Mathlib.Omega.{arith}
 use lib.ListN.{length, replicate, get_or}
-use Rattle.book.specs.declared.Verdict.{Verdict}
-use Rattle.book.specs.declared.Verdict.TheVariants.{Fine, Refused}
-use Rattle.book.specs.Refusals.{verdict_numbers}
+use Rattle.std.proofs.Common.{Result, Ok, Err}
+use Rattle.book.specs.declared.Refusal.{Refusal}
+use Rattle.book.specs.Scan.{Verdict}
+use Rattle.book.specs.Refusals.{test_number, verdict_numbers}
 use Rattle.machine.specs.declared.Tally.{Tally}
-use Rattle.machine.specs.declared.Outcome.{Outcome}
-use Rattle.machine.specs.declared.Outcome.TheVariants.{Declined, Ended}
+use Rattle.machine.specs.declared.Ending.{Ending}
 use Rattle.machine.specs.Call.{Called, call, reply_numbers}
 use Rattle.questions.specs.Building.{book_of}
 use Rattle.questions.specs.Books.{a, b, c2, c10}
@@ -31,15 +31,15 @@ absurd_version {ℓ} : {X : Type ℓ} → ◌≡◌ {A = ℕ} 0 1 → X
 absurd_version z = absurd (omega arith)
 
 -- four numbers are those of an accepted call
-not_declined : (o : Outcome) (y : Tally) (t r e n m u : ℕ) → o ≡ Declined t r → reply_numbers (record { outcome = o; tally = y }) ≡ four e n m u → ⊥
+not_declined : (o : Result Ending Refusal) (y : Tally) (x : Refusal) (e n m u : ℕ) → o ≡ Err x → reply_numbers (record { outcome = o; tally = y }) ≡ four e n m u → ⊥
 unfolding reply_numbers
-not_declined (Declined t' r') y t r e n m u p q = absurd_version (cc)
-not_declined (Ended z) y t r e n m u p q = absurd_version (cc)
+not_declined (Err x') y x e n m u p q = absurd_version (cc)
+not_declined (Ok z) y x e n m u p q = absurd_version (cc)
 
-answers_said : (o : Outcome) (y : Tally) (e n m u : ℕ) → reply_numbers (record { outcome = o; tally = y }) ≡ four e n m u → (y.answers ≡ n) × (y.units ≡ u)
+answers_said : (o : Result Ending Refusal) (y : Tally) (e n m u : ℕ) → reply_numbers (record { outcome = o; tally = y }) ≡ four e n m u → (y.answers ≡ n) × (y.units ≡ u)
 unfolding reply_numbers
-answers_said (Declined t r) y e n m u q = absurd_version (cc)
-answers_said (Ended z) y e n m u q = (cc, cc)
+answers_said (Err x) y e n m u q = absurd_version (cc)
+answers_said (Ok z) y e n m u q = (cc, cc)
 
 not_zeros : (k : ℕ) → replicate {A = ℕ} (suc k) 7 ≡ replicate {A = ℕ} (length (replicate {A = ℕ} (suc k) 7)) 0 → ⊥
 not_zeros k e = let z : ◌≡◌ {A = ℕ} 7 0 = ap (λ (l : List ℕ). get_or l 0 0) e in absurd (omega arith)
@@ -75,12 +75,12 @@ module _ (f : Version) (h : KeepsContract f) where
   c2_accepted = go (verdict_on (book_of c2) 64 (replicate 16384 7) (replicate 4096 7)) refl
     where
       go : (v : Verdict) → verdict_on (book_of c2) 64 (replicate 16384 7) (replicate 4096 7) ≡ v → verdict_numbers (verdict_on (book_of c2) 64 (replicate 16384 7) (replicate 4096 7)) ≡ []
-      go Fine e = ap verdict_numbers e
-      go (Refused t r) e = absurd (not_declined _ _ t r _ _ _ _ (kept_c2.demand1.leaves t r (ap verdict_numbers e)).outcome numbers_c2)
+      go (Ok u) e = ap verdict_numbers e
+      go (Err x) e = let d = (kept_c2.demand1.leaves (test_number x.test) x.failing (ap verdict_numbers e)).outcome in absurd (not_declined _ _ d.0 _ _ _ _ d.1 numbers_c2)
 
   -- refuses all
-  pub not_refusing_all : ((book : List ℕ) (budget wanted : ℕ) (ws out : List ℕ) → (t : ℕ) × (r : ℕ) × ((f book budget wanted ws out).reply.outcome ≡ Declined t r)) → ⊥
-  not_refusing_all w = let d = w (book_of c2) 1_000_000 64 (replicate 16384 7) (replicate 4096 7) in not_declined _ _ d.0 d.1 _ _ _ _ d.2 numbers_c2
+  pub not_refusing_all : ((book : List ℕ) (budget wanted : ℕ) (ws out : List ℕ) → (e : Refusal) × ((f book budget wanted ws out).reply.outcome ≡ Err e)) → ⊥
+  not_refusing_all w = let d = w (book_of c2) 1_000_000 64 (replicate 16384 7) (replicate 4096 7) in not_declined _ _ d.0 _ _ _ _ d.1 numbers_c2
 
   -- always reports no answers
   pub not_always_none : ((book : List ℕ) (budget wanted : ℕ) (ws out : List ℕ) → (f book budget wanted ws out).reply.tally.answers ≡ 0) → ⊥

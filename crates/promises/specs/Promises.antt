@@ -2,10 +2,10 @@
 -- `Allowed` is the contract of `solve`; proofs/Kept proves each promise of whatever is allowed, and that the contracts of `solve` and of the C function allow nothing else.
 -- Cited, each with the sentences of document 01 that it says: `verdict` (book, Refusals: tests 1 to 7 in order), `run_of` and `filled_buffer` (machine, Call: the run of the
 -- machine, unit by unit, and the answer records with zeros after them), `AnswersRight` and `SearchComplete` (derivation, Demand3).
-use Rattle.std.specs.Prelude.{◌≡◌, List, [], ◌∷◌, ◌≢◌, ℕ, ◌≤◌, length, replicate}
-use Rattle.book.specs.declared.Verdict.{Verdict}
-use Rattle.book.specs.Refusals.{verdict, verdict_numbers}
-use Rattle.machine.specs.declared.Outcome.TheVariants.{Declined, Ended}
+use Rattle.std.specs.Prelude.{◌≡◌, List, [], ◌∷◌, ◌≢◌, ℕ, ◌≤◌, length, replicate, Ok, Err}
+use Rattle.book.specs.declared.Refusal.{Refusal}
+use Rattle.book.specs.Scan.{Verdict}
+use Rattle.book.specs.Refusals.{test_number, verdict, verdict_numbers}
 use Rattle.machine.specs.declared.Reply.{Reply}
 use Rattle.machine.specs.Run.{Result, ending_number}
 use Rattle.machine.specs.Call.{Called, call, no_counts, run_of, filled_buffer, reply_numbers}
@@ -20,6 +20,10 @@ pub record Allowed (book : List ℕ) (budget wanted : ℕ) (ws out : List ℕ) (
 -- The tests' verdict on a call, and the reply, in this paper's numbers: refused, `number ∷ record ∷ []`; accepted, `ending ∷ answers ∷ assumed ∷ units ∷ []`.
 abbrev pub verdict_on : List ℕ → ℕ → List ℕ → List ℕ → Verdict
 verdict_on book wanted ws out = verdict (length ws) (length out) wanted book
+
+-- the reply is a refusal, by test number t, at record r
+abbrev pub Declined : Reply → ℕ → ℕ → Type 0
+Declined reply t r = (e : Refusal) × (reply.outcome ≡ Err e) × (test_number e.test ≡ t) × (e.failing ≡ r)
 
 module _ (book : List ℕ) (budget wanted : ℕ) (ws out : List ℕ) (reply : Reply) (ws' out' : List ℕ) where
   -- DEMAND 1: one result, and a refusal exactly when the tests say so
@@ -37,7 +41,7 @@ module _ (book : List ℕ) (budget wanted : ℕ) (ws out : List ℕ) (reply : Re
 
   -- What refusal t at record r leaves: "All counts in the reply are 0"; test 1's "changes nothing. Every other refusal leaves the workspace all zero and the answer buffer .. untouched"
   pub record Leaves (t r : ℕ) : Type 0 where
-    pub outcome : reply.outcome ≡ Declined t r
+    pub outcome : Declined reply t r
     pub counts : reply.tally ≡ no_counts
     pub words_of_first : t ≡ 1 → ws' ≡ ws
     pub words_of_others : t ≢ 1 → ws' ≡ replicate (length ws) 0
@@ -55,7 +59,7 @@ module _ (book : List ℕ) (budget wanted : ℕ) (ws out : List ℕ) (reply : Re
 
   -- ending and counts, the machine's units among them; the answer records, zeros after them; "Every accepted call leaves the workspace all zero"
   pub record AsTheMachine : Type 0 where
-    pub outcome : reply.outcome ≡ Ended the_run.ending
+    pub outcome : reply.outcome ≡ Ok the_run.ending
     pub counts : reply.tally ≡ the_run.tally
     pub numbers : reply_numbers reply ≡ ending_number the_run.ending ∷ the_run.tally.answers ∷ the_run.tally.assumed ∷ the_run.tally.units ∷ []
     pub within_budget : reply.tally.units ≤ budget

@@ -4,7 +4,7 @@
 // the refusal's number or 0, the record) and the book. Numbers are u32, low byte first.
 #![tactic(auto)]
 
-use book::Verdict;
+use book::Refusal;
 use reading::read_full;
 use std::io;
 use std::io::Read;
@@ -61,10 +61,10 @@ fn words_fit(ws: &[u32], kept: bool) -> bool {
     ws.iter().enumerate().all(|(i, word)| if kept { *word == before(i) } else { *word == 0 })
 }
 
-fn agrees(v: Verdict, c: Case) -> bool {
+fn agrees(v: Result<(), Refusal>, c: Case) -> bool {
     match v {
-        Verdict::Fine => c.refusal.is_none() && c.record == 0,
-        Verdict::Refused(t, r) => c.refusal == Some(u32::from(t)) && c.record == u32::from(r),
+        Ok(()) => c.refusal.is_none() && c.record == 0,
+        Err(e) => c.refusal == Some(e.test as u32) && c.record == u32::from(e.failing),
     }
 }
 

@@ -1,23 +1,29 @@
-use Rattle.std.proofs.Common.{◌≡◌, ℕ, zero, suc, ◌-◌, length, get_or, drop, Bool, ◌&&◌, eqb, List, ap, ◌∙◌, arith, rules, tests}
-use Rattle.std.specs.List.{list_all}
-use Rattle.std.proofs.lemmas.List.{drop_all}
-use Rattle.std.proofs.Math.Seq.{drop-cons}
-use Rattle.std.proofs.lemmas.Iterator.{YieldsList-from_slice}
-use Rattle.std.proofs.lemmas.Iterator.Adapters.{YieldsList-from_skip}
-use Rattle.std.proofs.lemmas.Iterator.Search.{all_from_yields_List}
+use Rattle.std.proofs.Common.{◌≡◌, ℕ, suc, ◌+◌, ◌-◌, ◌<◌, ◌≤◌, true, false, ◌&&◌, eqb, List, refl, sym, ap, ◌∙◌, arith, rules}
+use Rattle.std.proofs.lemmas.Bool.Decides.{nat_tests}
+use Rattle.book.specs.Records.{at}
 use Rattle.book.specs.Fields.{zeros, zero_from}
 use Rattle.fields.proofs.zero_from.Goals as goal
 
-abbrev is_zero : ℕ → Bool
-is_zero x = eqb x 0
+one_more : (r : List ℕ) (k : ℕ) → k < 8 → zero_from k r ≡ (eqb (at r k) 0 && zero_from (k + 1) r)
+unfolding zero_from zeros
+one_more r k l = let e : 8 - k ≡ suc (8 - (k + 1)) = omega arith in let s : k + 1 ≡ suc k = omega arith in rw e (rw s refl)
 
-zeros_all : (r : List ℕ) (n k : ℕ) → n ≡ length r - k → list_all is_zero (drop k r) ≡ zeros k n r
-unfolding zeros
-zeros_all r zero k e = rw (drop_all k r (omega arith))
-zeros_all r (suc n) k e = rw (drop-cons r k 0 (omega arith)) (ap (λ b. eqb (get_or r k 0) 0 && b) (zeros_all r n (suc k) (omega arith)))
+none_more : (r : List ℕ) (k : ℕ) → 8 ≤ k → zero_from k r ≡ true
+unfolding zero_from zeros
+none_more r k l = let e : 8 - k ≡ 0 = omega arith in rw e refl
+
+pub loop-k-init : goal.loop-k-init
+loop-k-init g c = refl
+
+pub returns-then-r-k-ne0 : goal.returns-then-r-k-ne0
+returns-then-r-k-ne0 g c =
+    let e : eqb (at c.args.r c.loop-k.k) 0 ≡ false = search (rules, nat_tests) in
+    sym (c.loop-k.invariant ∙ one_more c.args.r c.loop-k.k c.loop-k-test.true ∙ ap (λ b. b && zero_from (c.loop-k.k + 1) c.args.r) e)
+
+pub loop-k-preserved : goal.loop-k-preserved
+loop-k-preserved g c =
+    let e : eqb (at c.args.r c.loop-k.k) 0 ≡ true = search (rules, nat_tests) in
+    c.loop-k.invariant ∙ one_more c.args.r c.loop-k.k c.loop-k-test.true ∙ ap (λ b. b && zero_from (c.loop-k.k + 1) c.args.r) e
 
 pub returns : goal.returns
-unfolding zero_from
-returns g c =
-    all_from_yields_List is_zero _ _ _ c.all.ensures.ran (YieldsList-from_skip _ (YieldsList-from_slice c.args.r (search rules)) (search rules)) (λ x b q k. search (rules, tests))
-    ∙ zeros_all c.args.r (8 - g.row.K) g.row.K (let l : length c.args.r ≡ 8 = search rules in omega arith)
+returns g c = sym (c.loop-k.invariant ∙ none_more c.args.r c.loop-k.k (omega (arith, c.loop-k-test)))

@@ -1,8 +1,6 @@
 use mathlib.Core.Path.{◌≡◌, refl, sym, ◌∙◌, ap}
-use native.Mathlib.Omega.{arith}
 use lib.ListN.{length, replicate}
-use Rattle.book.specs.Records.{records}
-use Rattle.refusals.proofs.PassLaws.{size_says, size_refused, size_taken}
+use Rattle.refusals.proofs.PassLaws.{size_refused, size_taken}
 use Rattle.refusals.proofs.WordLaws.{refusing_is, book_refused, book_fine}
 use borrow.Author.Rules.{rules}
 use Rattle.std.proofs.Common.{is_err}
@@ -15,12 +13,8 @@ returns-then-not-size_fits c =
     let z : c.fill.new.self ≡ replicate (length c.args.ws.now) 0 = search rules in
     (e, book_refused c.args.book.now c.args.ws.now _ _ e _ f refl z)
 
-pub overflow_cast-book : goal.overflow_cast-book
-overflow_cast-book c = let z = size_says _ (sym c.size_fits.ensures ∙ c.if-not-size_fits.false) in omega arith
-
 pub record_tests-v-requires : goal.record_tests-v-requires
-unfolding records
-record_tests-v-requires c = (sym c.size_fits.ensures ∙ c.if-not-size_fits.false, refl, c.requires)
+record_tests-v-requires c = (sym c.size_fits.ensures ∙ c.if-not-size_fits.false, c.requires)
 
 pub returns-then-is_err : goal.returns-then-is_err
 returns-then-is_err c =

@@ -9,11 +9,11 @@ use Rattle.refusals.proofs.record_tests.Goals as goal
 
 pub one_pass-requires : goal.one_pass-requires
 unfolding records
-one_pass-requires c = let z = size_says _ c.requires.0 in let n = c.requires.1 in (n, omega arith, omega arith)
+one_pass-requires c = let z = size_says _ c.requires.0 in (omega arith, omega arith)
 
 pub tree_test-requires : goal.tree_test-requires
 unfolding records
-tree_test-requires c = let z = size_says _ c.requires.0 in (z.0, z.1, c.requires.2, (shaped _ _ c.requires.0 (sym c.one_pass.ensures ∙ c.in_ok-one_pass.was)).fields)
+tree_test-requires c = let z = size_says _ c.requires.0 in (z.0, z.1, c.requires.1, (shaped _ _ c.requires.0 (sym c.one_pass.ensures ∙ c.in_ok-one_pass.was)).fields)
 
 pub scope_test-requires : goal.scope_test-requires
 scope_test-requires c = shaped _ _ c.requires.0 (sym c.one_pass.ensures ∙ c.in_ok-one_pass.was)

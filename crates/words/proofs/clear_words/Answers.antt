@@ -1,4 +1,3 @@
-use mathlib.Core.Path.{◌∙◌}
 use Rattle.words.proofs.ClearLaws.{clear_none, clear_more}
 use Rattle.words.proofs.clear_words.Goals as goal
 

@@ -1,7 +1,6 @@
 -- The six numbers of a reply, by the case of its outcome.
 use mathlib.Core.Path.{◌≡◌, refl}
 use mathlib.Core.List.{[], ◌∷◌}
-use Prim.Native.Nat.{ℕ}
 use Rattle.machine.specs.declared.Ending.{Ending}
 use Rattle.std.proofs.Common.{Ok, Err}
 use Rattle.book.specs.declared.Refusal.{Refusal}

@@ -9,6 +9,7 @@ ghost use Rattle.capi.specs.Six.{reply_six};
 use book::Test;
 use machine::Reply;
 
+// Document 01's number of a test.
 #[tactic(auto, unfolding(book::specs::Refusals::test_number))]
 fn test_number(test: Test) -> u32
     ensures { result ≡ test_number test }
@@ -29,14 +30,7 @@ fn six(x: Reply) -> [u32; 6]
             0,
             0,
         ],
-        Ok(ending) => [
-            0,
-            0,
-            u32::from(ending),
-            y.answers,
-            y.assumed,
-            y.units,
-        ],
+        Ok(ending) => [0, 0, u32::from(ending), y.answers, y.assumed, y.units],
     }
 }
 

@@ -9,7 +9,7 @@ use lib.ListN.{length, replicate}
 use borrow.Author.Tests.{ne_eqb}
 use Rattle.std.proofs.Common.{Ok, Err}
 use Rattle.book.specs.declared.Test.{Test}
-use Rattle.book.specs.declared.Test.TheVariants.{Room, Size, Kinds, Fields, Targets, Tree, Scope}
+use Rattle.book.specs.declared.Test.TheVariants.{Room, Size, Kinds, Fields, Targets, Tree}
 use Rattle.book.specs.declared.Refusal.{Refusal}
 use Rattle.book.specs.Records.{field, records, last_record}
 use Rattle.book.specs.Kinds.{Kind, variable_kind, term_kind, link_kind, atom_kind, and_kind, or_kind, suppose_kind, clause_kind, tie_kind, question_kind, no_kind, kind_at}

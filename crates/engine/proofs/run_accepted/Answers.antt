@@ -1,4 +1,3 @@
-use mathlib.Core.Path.{◌≡◌, ◌∙◌}
 use lib.ListN.{length}
 use Rattle.engine.proofs.AcceptedLaws.{run_ready, run_done}
 use borrow.Author.Rules.{rules}

@@ -6,9 +6,6 @@ use mathlib.Core.List.{List}
 use Prim.Native.Nat.{ℕ, zero, suc, ◌+◌, ◌≤◌, ◌<◌}
 use native.Mathlib.Omega.{arith}
 use lib.ListN.{length, get_or, set, length-set}
-use Rattle.std.proofs.Common.{sym, ap, take, drop, ◌++◌, replicate, length-drop, ◌-◌}
-use Rattle.std.proofs.lemmas.List.{take-append-drop, length-take-le, set-append_right}
-use Rattle.std.proofs.lemmas.List.Edits.{fill_more}
 use lib.Seq.{get_or-set_same, get_or-set_other}
 use Rattle.book.proofs.Tests.{tested, Tested, Tested.equal, Tested.other}
 use Rattle.words.specs.Frame.{Keeps, clear_words}
@@ -41,18 +38,3 @@ clear_zero at (suc n) k ws l h = go (tested k n) (λ a. clear_zero at n k ws (om
     go : {t : Bool} → Tested k n t → (k < n → get_or (clear_words at n ws) (at + k) 0 ≡ 0) → get_or (set (clear_words at n ws) (at + n) 0) (at + k) 0 ≡ 0
     go (equal e) ih = rw (e, get_or-set_same (clear_words at n ws) (at + n) 0 0 (omega (arith, clear_length at n ws))) refl
     go (other e) ih = get_or-set_other (clear_words at n ws) (at + n) (at + k) 0 0 (λ d. e (omega arith)) ∙ ih (omega (arith, e))
-
--- the same words, as a part filled with zeros
-pub clear_is : (at n : ℕ) (ws : List ℕ) → at + n ≤ length ws → clear_words at n ws ≡ take at ws ++ (replicate n 0 ++ drop n (drop at ws))
-unfolding clear_words
-clear_is at zero ws h = sym (take-append-drop at ws)
-clear_is at (suc n) ws h =
-    let l : length (take at ws) ≡ at = length-take-le at ws (omega arith) in
-    let m : n < length (drop at ws) = simp length-drop (omega arith) in
-    let i : at + n - at ≡ n = omega arith in
-    let s : n + 1 ≡ suc n = omega arith in
-    ap (λ x. set x (at + n) 0) (clear_is at n ws (omega arith)) ∙ set-append_right (take at ws) (replicate n 0 ++ drop n (drop at ws)) at (at + n) 0 l (omega arith)
-    ∙ ap (λ x. take at ws ++ x) (rw i (fill_more n 0 (drop at ws) m ∙ rw s refl))
-
-pub filled_part : (at n m k : ℕ) (ws ys : List ℕ) → at + n ≤ length ws → m ≡ n → k ≡ n → ys ≡ replicate k 0 → take at ws ++ (ys ++ drop m (drop at ws)) ≡ clear_words at n ws
-filled_part at n m k ws ys h d f e = rw (e, f, d) (sym (clear_is at n ws h))

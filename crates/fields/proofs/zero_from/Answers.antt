@@ -1,5 +1,5 @@
-use Rattle.std.proofs.Common.{◌≡◌, ℕ, suc, ◌+◌, ◌-◌, ◌<◌, ◌≤◌, true, false, ◌&&◌, eqb, List, refl, sym, ap, ◌∙◌, arith, rules}
-use Rattle.std.proofs.lemmas.Bool.Decides.{nat_tests}
+use Rattle.std.proofs.Common.{◌≡◌, ℕ, suc, ◌+◌, ◌-◌, ◌<◌, ◌≤◌, true, ◌&&◌, eqb, List, refl, sym, ap, ◌∙◌, arith}
+use Rattle.std.proofs.Math.Bool.{and-true, and_assoc}
 use Rattle.book.specs.Records.{at}
 use Rattle.book.specs.Fields.{zeros, zero_from}
 use Rattle.fields.proofs.zero_from.Goals as goal
@@ -12,18 +12,9 @@ none_more : (r : List ℕ) (k : ℕ) → 8 ≤ k → zero_from k r ≡ true
 unfolding zero_from zeros
 none_more r k l = let e : 8 - k ≡ 0 = omega arith in rw e refl
 
-pub loop-k-init : goal.loop-k-init
-loop-k-init g c = refl
-
-pub returns-then-r-k-ne0 : goal.returns-then-r-k-ne0
-returns-then-r-k-ne0 g c =
-    let e : eqb (at c.args.r c.loop-k.k) 0 ≡ false = search (rules, nat_tests) in
-    sym (c.loop-k.invariant ∙ one_more c.args.r c.loop-k.k c.loop-k-test.true ∙ ap (λ b. b && zero_from (c.loop-k.k + 1) c.args.r) e)
-
 pub loop-k-preserved : goal.loop-k-preserved
-loop-k-preserved g c =
-    let e : eqb (at c.args.r c.loop-k.k) 0 ≡ true = search (rules, nat_tests) in
-    c.loop-k.invariant ∙ one_more c.args.r c.loop-k.k c.loop-k-test.true ∙ ap (λ b. b && zero_from (c.loop-k.k + 1) c.args.r) e
+loop-k-preserved g c = let l = c.loop-k in
+    l.invariant ∙ ap (λ b. l.zero && b) (one_more c.args.r l.k c.loop-k-test.true) ∙ sym (and_assoc l.zero (eqb (at c.args.r l.k) 0) (zero_from (l.k + 1) c.args.r))
 
 pub returns : goal.returns
-returns g c = sym (c.loop-k.invariant ∙ none_more c.args.r c.loop-k.k (omega (arith, c.loop-k-test)))
+returns g c = let l = c.loop-k in sym (l.invariant ∙ ap (λ b. l.zero && b) (none_more c.args.r l.k c.loop-k-test.false) ∙ and-true l.zero)

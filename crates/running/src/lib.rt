@@ -15,7 +15,7 @@ ghost use Rattle.running.specs.Turns.{answer_due, Taken, Midway, TurnGives, one_
 
 use machine::{Ending, Limit, Tally};
 use returning::Reached;
-use steps::{Regs, Stepped};
+use steps::{Branch, Regs, Stepped};
 use words::{Book, Words};
 
 // A turn of the run: it goes on, with the tally, the registers and the end of what is written; or it has ended.
@@ -81,6 +81,7 @@ fn answer(
     ws: &mut Words,
     out: &mut [u8],
     r: Regs,
+    b: Branch,
     y: Tally,
     end: usize,
     asked: Asked,
@@ -96,7 +97,7 @@ fn answer(
     match answers::write_answer(book, r.made, ws, out, end, k, asked.unknowns) {
         Err(limit) => Turned::Over(Ending::Stopped(limit), y),
         Ok(e) => {
-            let z = count_answer(y, r.supposed);
+            let z = count_answer(y, b.supposed);
             if z.answers == asked.wanted {
                 return Turned::Over(Ending::Enough, z);
             }
@@ -105,11 +106,12 @@ fn answer(
     }
 }
 
-// Whether an answer is due: the list of goals of the branch in hand is empty.
-fn answer_due(r: Regs) -> bool
-    ensures { result ≡ answer_due r }
+// The branch in hand whose list of goals is empty: an answer is due.
+fn answered(r: Regs) -> Option<Branch>
+    ensures { result ≡ answered r }
 {
-    r.solving && r.cell == 0
+    let b = r.branch?;
+    if b.cell == 0 { Some(b) } else { None }
 }
 
 // Goes back; or, with a branch in hand, takes its next goal, if the budget has a unit left.
@@ -121,13 +123,13 @@ fn reach(book: &Book, ws: &mut Words, r: Regs, left: u32) -> Reached
     ensures reach_contract { ReachContract book.now.bytes.now ws.old ws.new r left result }
     ensures memo_reached { MemoReached book.now.bytes.now ws.new left result }
 {
-    if !r.solving {
+    let Some(b) = r.branch else {
         return returning::back(book, ws, r, left);
-    }
+    };
     if left == 0 {
         return Reached::Finished(Ending::Stopped(Limit::Budget), 0);
     }
-    taking::take(book, ws, r, left)
+    taking::take(book, ws, r, b, left)
 }
 
 // One turn: an answer; or a step, which goes back or takes the next goal, and tries the candidate to which that leads. A unit is done only if the budget
@@ -147,11 +149,11 @@ fn turn(
         → TurnGives book.now.bytes.now asked.unknowns asked.wanted (length out.old) asked.budget ws.new out.new r y whole result }
 {
     let left = asked.budget - y.units;
-    if answer_due(r) {
+    if let Some(b) = answered(r) {
         if left == 0 {
             return Turned::Over(Ending::Stopped(Limit::Budget), y);
         }
-        return answer(book, ws, out, r, y, end, asked);
+        return answer(book, ws, out, r, b, y, end, asked);
     }
     let o = reach(book, ws, r, left);
     let s = returning::go_on(book, ws, o, left);

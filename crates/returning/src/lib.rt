@@ -318,12 +318,13 @@ pub enum Reached {
 }
 
 // Goes back to the newest alternative; with none left the search is complete.
-pub fn back(book: &Book, ws: &mut Words, r: Regs, left: u32) -> Reached
+// The book is not read here, so its bytes come as they are: a `Book` would ask more of a caller.
+pub fn back(book: &[u8], ws: &mut Words, r: Regs, left: u32) -> Reached
     requires solving_value { r.solving ≡ false }
-    requires stands { (threads : List Thread) × Stands book.now.bytes.now ws.old r threads }
-    requires memo { Memo book.now.bytes.now ws.old r.programs left }
-    ensures reach_contract { ReachContract book.now.bytes.now ws.old ws.new r left result }
-    ensures memo_reached { MemoReached book.now.bytes.now ws.new left result }
+    requires stands { (threads : List Thread) × Stands book.now ws.old r threads }
+    requires memo { Memo book.now ws.old r.programs left }
+    ensures reach_contract { ReachContract book.now ws.old ws.new r left result }
+    ensures memo_reached { MemoReached book.now ws.new left result }
 {
     if r.alternatives == 0 {
         return Reached::Finished(Ending::Complete, 0);
@@ -337,7 +338,8 @@ pub fn back(book: &Book, ws: &mut Words, r: Regs, left: u32) -> Reached
 }
 
 // Goes on from what a step has reached: a candidate is tried.
-pub fn go_on(book: &Book, ws: &mut Words, o: Reached, left: u32) -> Stepped
+// Only for that need the words be a whole workspace, so that they come as a slice: `Words` would ask more of a caller.
+pub fn go_on(book: &Book, ws: &mut [u32], o: Reached, left: u32) -> Stepped
     requires accepted { Accepted book.now.bytes.now }
     requires can_go_on { CanGoOn book.now.bytes.now ws.old left o }
     requires memo_reached { MemoReached book.now.bytes.now ws.old left o }
@@ -348,7 +350,10 @@ pub fn go_on(book: &Book, ws: &mut Words, o: Reached, left: u32) -> Stepped
         Reached::Onward(n, r) => Stepped::Onward(n, r),
         Reached::Finished(e, n) => Stepped::Finished(e, n),
         Reached::Clause(used, x, k) => {
-            let s = try_all(book, ws, k, x, left - used);
+            let Some(words) = ws.as_mut_array() else {
+                unreachable!()
+            };
+            let s = try_all(book, words, k, x, left - used);
             later(used, s)
         }
     }

@@ -124,8 +124,7 @@ fn reach(book: &Book, ws: &mut Words, r: Regs, left: u32) -> Reached
     ensures memo_reached { MemoReached book.now.bytes.now ws.new left result }
 {
     let Some(b) = r.branch else {
-        return returning::back(book, ws, r, left);
-    };
+        return returning::back(book.bytes, ws, r, left);
     if left == 0 {
         return Reached::Finished(Ending::Stopped(Limit::Budget), 0);
     }

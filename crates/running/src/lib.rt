@@ -125,6 +125,7 @@ fn reach(book: &Book, ws: &mut Words, r: Regs, left: u32) -> Reached
 {
     let Some(b) = r.branch else {
         return returning::back(book.bytes, ws, r, left);
+    };
     if left == 0 {
         return Reached::Finished(Ending::Stopped(Limit::Budget), 0);
     }

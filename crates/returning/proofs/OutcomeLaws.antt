@@ -12,11 +12,11 @@ use Rattle.returning.specs.declared.Front.{Front}
 use Rattle.returning.specs.Reentry.{regs_of, outcome_by, outcome_of}
 
 module _ (x : Back) (made n : ℕ) (l : Front) (u : Unified) where
-  pub outcome_done : u.how ≡ Done → Onward (u.used + 1) (regs_of x made n l u.trail true) ≡ outcome_of x made n l u
+  pub outcome_done : u.how ≡ Done → Onward (u.used + 1) (regs_of x made n l.cells u.trail (Some (branch_from x l.cell))) ≡ outcome_of x made n l u
   unfolding outcome_by
   outcome_done e = rw e refl
 
-  pub outcome_failed : u.how ≡ Failed → Onward (u.used + 1) (regs_of x made n l u.trail false) ≡ outcome_of x made n l u
+  pub outcome_failed : u.how ≡ Failed → Onward (u.used + 1) (regs_of x made n l.cells u.trail None) ≡ outcome_of x made n l u
   unfolding outcome_by
   outcome_failed e = rw e refl
 

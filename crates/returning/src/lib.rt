@@ -1,7 +1,7 @@
 // Going back to the newest alternative, and trying the next candidate of its atom.
 #![tactic(auto)]
 
-ghost use Rattle.std.specs.Prelude.{◌≡◌, true, false, List, ℕ, ◌+◌, ◌-◌, ◌*◌, ◌/◌, ◌%◌, ◌≤◌, ◌<◌, length, IfSome, IsSomeAnd};
+ghost use Rattle.std.specs.Prelude.{◌≡◌, true, Some, None, List, ℕ, ◌+◌, ◌-◌, ◌*◌, ◌/◌, ◌%◌, ◌≤◌, ◌<◌, length, IfSome, IsSomeAnd};
 ghost use Rattle.std.specs.Option.{ForSome};
 ghost use Rattle.book.specs.Records.{field as book_field, records};
 ghost use Rattle.book.proofs.Accepted.{Accepted};
@@ -11,7 +11,7 @@ ghost use Rattle.seeking.specs.Seeking.{AllIndexed};
 ghost use Rattle.seeking.specs.Memo.{Memo, MemoStays};
 ghost use Rattle.steps.specs.Search.{Stands, units_of, MemoStepped};
 ghost use Rattle.returning.specs.Returns.{Leads, ToClause};
-ghost use Rattle.returning.specs.Reentry.{place_of, moved, Renewed, body_words, front_of, regs_of, outcome_of, Tries};
+ghost use Rattle.returning.specs.Reentry.{place_of, moved, Renewed, body_words, front_of, branch_from, regs_of, outcome_of, Tries};
 ghost use Rattle.returning.specs.Reaching.{ReachContract, CanGoOn, GoesOn, MemoReached};
 ghost use Rattle.returning.specs.Passing.{first_argument, FirstIs, Clashes, NextIs, PassGives, later_by};
 
@@ -320,7 +320,7 @@ pub enum Reached {
 // Goes back to the newest alternative; with none left the search is complete.
 // The book is not read here, so its bytes come as they are: a `Book` would ask more of a caller.
 pub fn back(book: &[u8], ws: &mut Words, r: Regs, left: u32) -> Reached
-    requires solving_value { r.solving ≡ false }
+    requires solving_value { r.branch ≡ None }
     requires stands { (threads : List Thread) × Stands book.now ws.old r threads }
     requires memo { Memo book.now ws.old r.programs left }
     ensures reach_contract { ReachContract book.now ws.old ws.new r left result }

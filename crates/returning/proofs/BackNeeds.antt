@@ -1,11 +1,11 @@
 -- Going back, as the code does it: what it needs, and what the step gives.
 use mathlib.Core.Path.{◌≡◌, refl, sym, ◌∙◌, ap}
-use mathlib.Core.Bool.{true, false}
 use mathlib.Core.List.{List, ◌∷◌}
 use Prim.Native.Nat.{ℕ, ◌-◌, ◌≤◌}
 use native.Mathlib.Omega.{arith}
 use native.Mathlib.Nat.{sub-zero}
 use lib.Dec.{eqb}
+use Rattle.std.proofs.Common.{Some, None}
 use Rattle.machine.specs.declared.Ending.{Ending}
 use Rattle.machine.specs.declared.Tally.{Tally}
 use Rattle.machine.specs.Machine.{Thread, solving}
@@ -26,7 +26,7 @@ use Rattle.steps.specs.declared.Stepped.{Stepped}
 use Rattle.steps.specs.declared.Stepped.TheVariants.{Onward, Finished}
 use Rattle.steps.specs.Search.{run_on, spent_units, tops_of, Leaves, Stands, Stands.goal_in_hand, StepGives, StepGives.steps_on, MemoStepped}
 use Rattle.returning.specs.Returns.{ToClause, Returned, Returned.to_goal, Returned.to_clause}
-use Rattle.returning.specs.Reentry.{regs_kept, Tries}
+use Rattle.returning.specs.Reentry.{branch_from, regs_kept, Tries}
 use Rattle.returning.specs.declared.Reached.{Reached}
 use Rattle.returning.specs.declared.Reached.TheVariants.{Onward as ReachedOn, Finished as ReachedEnd, Clause}
 use Rattle.returning.specs.Passing.{later_by}

@@ -5,6 +5,7 @@ use mathlib.Core.List.{List, ◌∷◌, ◌++◌}
 use Prim.Native.Nat.{ℕ, suc, ◌+◌, ◌-◌, ◌*◌, ◌≤◌, ◌<◌}
 use native.Mathlib.Omega.{arith}
 use lib.Dec.{eqb}
+use Rattle.std.proofs.Common.{Some, None}
 use Rattle.book.specs.Records.{field}
 use Rattle.book.proofs.Accepted.{Accepted}
 use Rattle.machine.specs.declared.Limit.{Limit}
@@ -36,7 +37,7 @@ use Rattle.steps.proofs.BackRuns.{entered_done, entered_failed, entered_stopped}
 use Rattle.steps.proofs.LeaveLaws.{leaves_trans, leaves_between}
 use Rattle.returning.specs.declared.Front.{Front}
 use Rattle.returning.specs.Returns.{atom_of, ToClause}
-use Rattle.returning.specs.Reentry.{Renewed, regs_of, outcome_of}
+use Rattle.returning.specs.Reentry.{Renewed, branch_from, regs_of, outcome_of}
 use Rattle.returning.proofs.CandidateLaws.{clause_now, outer_now, clause_now_lem, can_enter}
 use Rattle.returning.proofs.BodyGoals.{tops_with, made_now, goals_now, agree_renewed, Ready}
 use Rattle.returning.proofs.OutcomeLaws.{outcome_done, outcome_failed, outcome_stopped}

@@ -4,6 +4,7 @@ use mathlib.Core.Bool.{false}
 use mathlib.Core.List.{List}
 use Prim.Native.Nat.{ℕ, ◌+◌, ◌-◌, ◌/◌, ◌%◌, ◌≤◌, ◌<◌}
 use native.Mathlib.Omega.{arith}
+use Rattle.std.proofs.Common.{None}
 use Rattle.book.specs.Records.{field, records}
 use Rattle.book.proofs.Accepted.{Accepted}
 use Rattle.machine.specs.declared.Limit.TheVariants.{Variables}

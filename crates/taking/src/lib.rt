@@ -1,7 +1,7 @@
 // Taking a goal: one unit of the run; or, where plain rules lead on from it, two units for each of them.
 #![tactic(auto)]
 
-ghost use Rattle.std.specs.Prelude.{◌≡◌, true, ℕ, ◌+◌, ◌-◌, ◌*◌, ◌≤◌, ◌<◌, length, get_or, List};
+ghost use Rattle.std.specs.Prelude.{◌≡◌, Some, ℕ, ◌+◌, ◌-◌, ◌*◌, ◌≤◌, ◌<◌, length, get_or, List};
 ghost use Rattle.words.specs.Readable.{HasArguments};
 ghost use Rattle.book.specs.Records.{records};
 ghost use Rattle.book.proofs.Accepted.{Accepted, Formed};
@@ -52,8 +52,8 @@ fn read_cell(ws: &Words, c: u32) -> Cell
 
 // The registers with a branch in hand whose first goal is in `cell`, the newest.
 fn in_hand(r: Regs, b: Branch, cell: u32, programs: u32, alternatives: u32) -> Regs
-    requires { (cell < 1026) × (r.taken < 512) }
-    ensures { result ≡ in_hand r cell programs alternatives supposed }
+    requires { (cell < 1026) × (b.taken < 512) }
+    ensures { result ≡ in_hand r b cell programs alternatives }
 {
     Regs {
         cells: cell + 1,
@@ -71,9 +71,9 @@ fn in_hand(r: Regs, b: Branch, cell: u32, programs: u32, alternatives: u32) -> R
 // Takes an and goal: the right goal, then before it the left one.
 fn take_and(book: &Book, ws: &mut Words, r: Regs, b: Branch, x: Cell) -> Regs
     requires goal_bound { x.goal < records book.now.bytes.now }
-    requires room { Room ws.old r x }
+    requires room { Room ws.old r b x }
     ensures ws_after { ws.new ≡ and_words book.now.bytes.now r x ws.old }
-    ensures value { result ≡ and_regs r }
+    ensures value { result ≡ and_regs r b }
 {
     let left = book.field(x.goal, 1);
     let right = book.field(x.goal, 2);
@@ -86,9 +86,9 @@ fn take_and(book: &Book, ws: &mut Words, r: Regs, b: Branch, x: Cell) -> Regs
 // Takes an or goal: the right goal is put and kept as an alternative, then the left one is put.
 fn take_or(book: &Book, ws: &mut Words, r: Regs, b: Branch, x: Cell) -> Regs
     requires goal_bound { x.goal < records book.now.bytes.now }
-    requires room { Room ws.old r x }
-    ensures ws_after { ws.new ≡ or_words book.now.bytes.now r x ws.old }
-    ensures value { result ≡ or_regs r }
+    requires room { Room ws.old r b x }
+    ensures ws_after { ws.new ≡ or_words book.now.bytes.now r b x ws.old }
+    ensures value { result ≡ or_regs r b }
 {
     let left = book.field(x.goal, 1);
     let right = book.field(x.goal, 2);
@@ -127,9 +127,9 @@ fn put_program(ws: &mut Words, p: u32, w: u32, q: u32, mark: u32)
 // The program's mark is the units that are left: putting a program takes a unit, so no two programs of a run have the same mark.
 fn take_suppose(book: &Book, ws: &mut Words, r: Regs, b: Branch, x: Cell, left: u32) -> Regs
     requires goal_bound { x.goal < records book.now.bytes.now }
-    requires room { Room ws.old r x }
+    requires room { Room ws.old r b x }
     ensures ws_after { ws.new ≡ suppose_words book.now.bytes.now r x left ws.old }
-    ensures value { result ≡ suppose_regs r }
+    ensures value { result ≡ suppose_regs r b }
 {
     let goal = book.field(x.goal, 3);
     let cells = r.cells;
@@ -145,8 +145,8 @@ fn take_suppose(book: &Book, ws: &mut Words, r: Regs, b: Branch, x: Cell, left: 
 
 // The numbers for the atom of cell x with the candidate at this place.
 fn at_place(r: Regs, b: Branch, x: Cell, place: Place) -> Back
-    requires { r.taken < 512 }
-    ensures { result ≡ atom_kept r x place.program place.clause }
+    requires { b.taken < 512 }
+    ensures { result ≡ atom_kept r b x place.program place.clause }
 {
     Back {
         made: r.made,
@@ -175,8 +175,8 @@ fn most_rules(taken: u32, left: u32) -> u32
 fn plain_ahead(book: &Book, ws: &Words, b: Branch, x: Cell, left: u32) -> Followed
     requires formed { Formed book.now.bytes.now × OwnReady book.now.bytes.now 0 × AllIndexed book.now.bytes.now ws.now }
     requires goal_bound { x.goal < records book.now.bytes.now }
-    requires room { Room ws.now r x }
-    ensures { 0 < result.rules → PlainAhead book.now.bytes.now r x left result }
+    requires room { Room ws.now r b x }
+    ensures { 0 < result.rules → PlainAhead book.now.bytes.now b x left result }
 {
     if 0 < x.program {
         return Followed {
@@ -189,10 +189,10 @@ fn plain_ahead(book: &Book, ws: &Words, b: Branch, x: Cell, left: u32) -> Follow
 
 // Takes the goals of plain rules: the goal to which they lead is put in the place of the goal of cell x.
 fn take_plain(ws: &mut Words, r: Regs, b: Branch, x: Cell, p: Followed) -> Regs
-    requires goal_bound { (p.goal < 4096) × (r.taken + p.rules ≤ 512) }
-    requires room { Room ws.old r x }
+    requires goal_bound { (p.goal < 4096) × (b.taken + p.rules ≤ 512) }
+    requires room { Room ws.old r b x }
     ensures ws_after { ws.new ≡ plain_words r x p ws.old }
-    ensures value { result ≡ plain_regs r p }
+    ensures value { result ≡ plain_regs r b p }
 {
     let cell = r.cells;
     branch::put_cell(ws, cell, 4096 * (p.goal + 1) + r.made, x.program, x.next);
@@ -212,9 +212,9 @@ fn take_atom(book: &Book, ws: &mut Words, r: Regs, b: Branch, x: Cell) -> Reache
     requires formed { Formed book.now.bytes.now × OwnReady book.now.bytes.now 0 × AllIndexed book.now.bytes.now ws.old }
     requires standing { Standing book.now.bytes.now ws.old r.made r.programs x.program 0 }
     requires has_arguments { HasArguments book.now.bytes.now x.goal }
-    requires room { Room ws.old r x }
+    requires room { Room ws.old r b x }
     requires by_index { (left : ℕ) × Memo book.now.bytes.now ws.old r.programs left }
-    ensures atom_taken { AtomTaken book.now.bytes.now ws.old r x result }
+    ensures atom_taken { AtomTaken book.now.bytes.now ws.old r b x result }
     ensures memo_stays { MemoStays book.now.bytes.now r.programs ws.old ws.new }
 {
     let head = Head::read(book, x.goal);
@@ -227,7 +227,7 @@ fn take_atom(book: &Book, ws: &mut Words, r: Regs, b: Branch, x: Cell) -> Reache
 // Takes the first goal of the branch in hand.
 pub fn take(book: &Book, ws: &mut Words, r: Regs, b: Branch, left: u32) -> Reached
     requires accepted { Accepted book.now.bytes.now × OwnReady book.now.bytes.now 0 × AllIndexed book.now.bytes.now ws.old }
-    requires solving_value { (r.solving ≡ true) × (0 < r.cell) × (0 < left) }
+    requires solving_value { (r.branch ≡ Some b) × (0 < b.cell) × (0 < left) }
     requires stands { (threads : List Thread) × Stands book.now.bytes.now ws.old r threads }
     requires memo { Memo book.now.bytes.now ws.old r.programs left }
     ensures reach_contract { ReachContract book.now.bytes.now ws.old ws.new r left result }

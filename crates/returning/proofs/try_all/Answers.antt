@@ -1,5 +1,6 @@
 use native.Mathlib.Omega.{arith}
 use mathlib.Core.Bool.{false}
+use Rattle.std.proofs.Common.{None}
 use Rattle.returning.specs.Reentry.{regs_kept}
 use mathlib.Core.Path.{refl}
 use Rattle.returning.proofs.PassLaws.{pass_some, pass_memo, pass_budget, pass_next, pass_through, through_memo}

@@ -175,7 +175,7 @@ fn most_rules(taken: u32, left: u32) -> u32
 fn plain_ahead(book: &Book, ws: &Words, b: Branch, x: Cell, left: u32) -> Followed
     requires formed { Formed book.now.bytes.now × OwnReady book.now.bytes.now 0 × AllIndexed book.now.bytes.now ws.now }
     requires goal_bound { x.goal < records book.now.bytes.now }
-    requires room { Room ws.now r b x }
+    requires few { b.taken < 512 }
     ensures { 0 < result.rules → PlainAhead book.now.bytes.now b x left result }
 {
     if 0 < x.program {

@@ -14,7 +14,7 @@ pub field-kind-requires : goal.field-kind-requires
 field-kind-requires c = let p = c.requires in record { r_bound = goal_inside _ _ _ _ p.solving_value.0 p.solving_value.1 p.stands _ c.read_cell-x.ensures; k_bound = omega arith }
 
 pub plain_ahead-p-requires : goal.plain_ahead-p-requires
-plain_ahead-p-requires c = let p = c.requires in record { formed = (p.accepted.0.formed, p.accepted.1, p.accepted.2); goal_bound = goal_inside _ _ _ _ p.solving_value.0 p.solving_value.1 p.stands _ c.read_cell-x.ensures; room = take_room _ _ _ _ p.solving_value.0 p.solving_value.1 p.stands _ c.read_cell-x.ensures c.args.book.now.readable (omega (arith, c.if-b-ge512.false)) }
+plain_ahead-p-requires c = let p = c.requires in record { formed = (p.accepted.0.formed, p.accepted.1, p.accepted.2); goal_bound = goal_inside _ _ _ _ p.solving_value.0 p.solving_value.1 p.stands _ c.read_cell-x.ensures; few = omega (arith, c.if-b-ge512.false) }
 
 pub take_plain-requires : goal.take_plain-requires
 take_plain-requires c = let p = c.requires in let a = c.plain_ahead-p.ensures c.if-p-gt0.true in record { goal_bound = ((in_book _ c.args.book.now.readable _ a.inside).1, a.goals); room = take_room _ _ _ _ p.solving_value.0 p.solving_value.1 p.stands _ c.read_cell-x.ensures c.args.book.now.readable (omega (arith, c.if-b-ge512.false)) }

@@ -1,7 +1,7 @@
 // The run of an accepted call: steps and answers, one turn after another, until it ends.
 #![tactic(auto)]
 
-ghost use Rattle.std.specs.Prelude.{◌≡◌, true, false, List, [], ◌∷◌, ◌+◌, ◌≤◌, ◌<◌, length, replicate};
+ghost use Rattle.std.specs.Prelude.{◌≡◌, Some, None, List, [], ◌∷◌, ◌+◌, ◌≤◌, ◌<◌, length, replicate};
 ghost use Rattle.book.specs.Decode.{question_of};
 ghost use Rattle.machine.specs.Run.{Result, start as start_of};
 ghost use Rattle.machine.specs.Call.{no_counts, run_of, filled_buffer};
@@ -88,7 +88,7 @@ fn answer(
 ) -> Turned
     requires taken { Taken book.now.bytes.now asked.unknowns asked.wanted (length out.old) }
     requires midway { (whole : Result) × Midway book.now.bytes.now asked.unknowns asked.wanted (length out.old) asked.budget ws.old out.old r y end whole }
-    requires solving_value { (r.solving ≡ true) × (r.cell ≡ 0) × (y.units < asked.budget) }
+    requires solving_value { (r.branch ≡ Some b) × (b.cell ≡ 0) × (y.units < asked.budget) }
     ensures { (whole : Result) → Midway book.now.bytes.now asked.unknowns asked.wanted (length out.old) asked.budget ws.old out.old r y end whole
         → TurnGives book.now.bytes.now asked.unknowns asked.wanted (length out.old) asked.budget ws.new out.new r y whole result }
 {
@@ -107,8 +107,8 @@ fn answer(
 }
 
 // The branch in hand whose list of goals is empty: an answer is due.
-fn answered(r: Regs) -> Option<Branch>
-    ensures { result ≡ answered r }
+fn answer_due(r: Regs) -> Option<Branch>
+    ensures { result ≡ answer_due r }
 {
     let b = r.branch?;
     if b.cell == 0 { Some(b) } else { None }
@@ -117,7 +117,7 @@ fn answered(r: Regs) -> Option<Branch>
 // Goes back; or, with a branch in hand, takes its next goal, if the budget has a unit left.
 fn reach(book: &Book, ws: &mut Words, r: Regs, left: u32) -> Reached
     requires accepted { Accepted book.now.bytes.now × AllIndexed book.now.bytes.now ws.old }
-    requires r_value { answer_due r ≡ false }
+    requires r_value { answer_due r ≡ None }
     requires stands { (threads : List Thread) × Stands book.now.bytes.now ws.old r threads }
     requires memo { Memo book.now.bytes.now ws.old r.programs left }
     ensures reach_contract { ReachContract book.now.bytes.now ws.old ws.new r left result }
@@ -149,7 +149,7 @@ fn turn(
         → TurnGives book.now.bytes.now asked.unknowns asked.wanted (length out.old) asked.budget ws.new out.new r y whole result }
 {
     let left = asked.budget - y.units;
-    if let Some(b) = answered(r) {
+    if let Some(b) = answer_due(r) {
         if left == 0 {
             return Turned::Over(Ending::Stopped(Limit::Budget), y);
         }

@@ -11,4 +11,4 @@ pub returns-then-left-eq0 : goal.returns-then-left-eq0
 returns-then-left-eq0 c = record { reach_contract = goal_spent c.in-Some.is c.if-left-eq0.true; memo_reached = memo_ended _ _ _ _ _ }
 
 pub take-requires : goal.take-requires
-take-requires c = let p = c.requires in let A = p.accepted.0 in let s = c.in-Some.is in record { accepted = (A, own_ready _ A, p.accepted.1); solving_value = (s, due_no _ _ p.r_value s, omega (arith, c.if-left-eq0.false)); stands = p.stands; memo = p.memo }
+take-requires c = let p = c.requires in let A = p.accepted.0 in let s = c.in-Some.is in record { accepted = (A, own_ready _ A, p.accepted.1); solving_value = (s, due_no c.args.r _ p.r_value s, omega (arith, c.if-left-eq0.false)); stands = p.stands; memo = p.memo }

@@ -3,7 +3,7 @@ use mathlib.Core.Path.{◌≡◌, refl, sym, ◌∙◌, ap, subst}
 use mathlib.Core.Logic.{inl, inr}
 use mathlib.Core.Bool.{true, false}
 use mathlib.Core.List.{List, [], ◌∷◌, map}
-use Prim.Native.Nat.{ℕ, zero, suc, ◌+◌, ◌-◌, ◌*◌, ◌/◌, ◌≤◌, ◌<◌}
+use Prim.Native.Nat.{ℕ, zero, suc, ◌+◌, ◌*◌, ◌≤◌, ◌<◌}
 use native.Mathlib.Omega.{arith}
 use native.Mathlib.Nat.{add-zero, sub-zero}
 use lib.ListN.{length, get_or, take, replicate}
@@ -33,7 +33,6 @@ use Rattle.branch.proofs.FromScoped.{own_ready}
 use Rattle.seeking.proofs.MemoLaws.{memo_none}
 use Rattle.words.specs.Words.{term_word, entry_w, store_of}
 use Rattle.words.specs.Frame.{Keeps}
-use Rattle.words.proofs.FromAccepted.{readable}
 use Rattle.branch.specs.State.{IsRest, IsRest.own_rest, IsProgram, IsGoals, IsGoals.no_goals, IsGoals.goal_cell, Sound, Waiting.none_waiting, own_run, rest_of, put_cell}
 use Rattle.branch.proofs.TakeLaws.{put_outside, cell_word}
 use Rattle.std.proofs.Common.{Some}

@@ -1,7 +1,7 @@
 -- The step that takes a goal: what the registers stand for makes it safe, and each kind of goal gives a step of the run.
 use mathlib.Core.Path.{◌≡◌, refl, sym, ◌∙◌, ap}
 use mathlib.Core.Logic.{◌≢◌}
-use mathlib.Core.Bool.{true, false}
+use mathlib.Core.Bool.{true}
 use mathlib.Core.List.{List, ◌∷◌}
 use Prim.Native.Nat.{ℕ, ◌+◌, ◌-◌, ◌*◌, ◌/◌, ◌%◌, ◌≤◌, ◌<◌}
 use native.Mathlib.Omega.{arith}
@@ -20,7 +20,7 @@ use Rattle.words.proofs.PackLaws.{rec_pack, base_pack, pack_large}
 use Rattle.words.proofs.ReadLaws.{in_book}
 use Rattle.seeking.specs.Seeking.{Standing}
 use Rattle.seeking.specs.Memo.{MemoOnly}
-use Rattle.std.proofs.Common.{Option, Some, None}
+use Rattle.std.proofs.Common.{Some, None}
 use Rattle.branch.specs.State.{IsBranch}
 use Rattle.branch.proofs.TakeLaws.{CellAt, cell_at}
 use Rattle.following.specs.declared.Followed.{Followed}

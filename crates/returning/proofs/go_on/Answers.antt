@@ -5,7 +5,6 @@ use Rattle.std.proofs.Common.{None}
 use Rattle.returning.proofs.BackNeeds.{on_on, on_end, on_clause, clause_asked, memo_on, memo_asked}
 use Rattle.returning.proofs.MemoFrames.{memo_ended, memo_later}
 use Rattle.steps.proofs.RunLaws.{units_most}
-use mathlib.Core.Bool.{false}
 use Rattle.returning.specs.Reentry.{regs_kept}
 use borrow.Author.Rules.{rules}
 use Rattle.returning.proofs.go_on.Goals as goal

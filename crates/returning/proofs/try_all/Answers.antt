@@ -1,5 +1,4 @@
 use native.Mathlib.Omega.{arith}
-use mathlib.Core.Bool.{false}
 use Rattle.std.proofs.Common.{None}
 use Rattle.returning.specs.Reentry.{regs_kept}
 use mathlib.Core.Path.{refl}

@@ -1,11 +1,11 @@
 -- Going back, as the code does it: what it needs, and what the step gives.
 use mathlib.Core.Path.{◌≡◌, refl, sym, ◌∙◌, ap}
-use mathlib.Core.Bool.{true, false}
 use mathlib.Core.List.{List, ◌∷◌}
 use Prim.Native.Nat.{ℕ, ◌-◌, ◌≤◌}
 use native.Mathlib.Omega.{arith}
 use native.Mathlib.Nat.{sub-zero}
 use lib.Dec.{eqb}
+use Rattle.std.proofs.Common.{Some, None}
 use Rattle.machine.specs.declared.Ending.{Ending}
 use Rattle.machine.specs.declared.Tally.{Tally}
 use Rattle.machine.specs.Machine.{Thread, solving}
@@ -26,7 +26,7 @@ use Rattle.steps.specs.declared.Stepped.{Stepped}
 use Rattle.steps.specs.declared.Stepped.TheVariants.{Onward, Finished}
 use Rattle.steps.specs.Search.{run_on, spent_units, tops_of, Leaves, Stands, Stands.goal_in_hand, StepGives, StepGives.steps_on, MemoStepped}
 use Rattle.returning.specs.Returns.{ToClause, Returned, Returned.to_goal, Returned.to_clause}
-use Rattle.returning.specs.Reentry.{regs_kept, Tries}
+use Rattle.returning.specs.Reentry.{branch_from, regs_kept, Tries}
 use Rattle.returning.specs.declared.Reached.{Reached}
 use Rattle.returning.specs.declared.Reached.TheVariants.{Onward as ReachedOn, Finished as ReachedEnd, Clause}
 use Rattle.returning.specs.Passing.{later_by}
@@ -36,7 +36,7 @@ use Rattle.returning.proofs.RenewLaws.{atom_large}
 use Rattle.returning.proofs.TryLaws.{flag_back}
 use Rattle.returning.proofs.ReturnLaws.{stands_back, Newest, newest, newest_programs, returned}
 
-module _ (book : List ℕ) (ws : List ℕ) (r : Regs) (threads : List Thread) (e : r.solving ≡ false) (Z : Stands book ws r threads) (some : r.alternatives ≡ 0 → ⊥) where
+module _ (book : List ℕ) (ws : List ℕ) (r : Regs) (threads : List Thread) (e : r.branch ≡ None) (Z : Stands book ws r threads) (some : r.alternatives ≡ 0 → ⊥) where
   abbrev k : ℕ
   k = r.alternatives - 1
 
@@ -70,19 +70,19 @@ module _ (book : List ℕ) (ws : List ℕ) (r : Regs) (threads : List Thread) (e
 
     module _ (left : ℕ) where
       -- the right side of an or, which takes no unit
-      pub goal_again : (s : Regs) → s ≡ regs_kept x k true → x.atom ≡ 0 → StepGives book ws ws₁ r left threads (Onward 0 s)
+      pub goal_again : (s : Regs) → s ≡ regs_kept x k (Some (branch_from x x.cell)) → x.atom ≡ 0 → StepGives book ws ws₁ r left threads (Onward 0 s)
       goal_again s se h = rw se (go here)
         where
-          go : {us : List Thread} → Returned book ws₁ k x us → StepGives book ws ws₁ r left us (Onward 0 (regs_kept x k true))
+          go : {us : List Thread} → Returned book ws₁ k x us → StepGives book ws ws₁ r left us (Onward 0 (regs_kept x k (Some (branch_from x x.cell))))
           go {us} (to_goal {b = b} {ts = ts} z G) =
-              let B : IsBranch book ws₁ (tops_of (regs_kept x k true)) x.cell x.taken (eqb x.supposed 1) b =
+              let B : IsBranch book ws₁ (tops_of (regs_kept x k (Some (branch_from x x.cell)))) x.cell x.taken (eqb x.supposed 1) b =
               rw (flag_back G.supposed x.supposed G.flagged) G.there in
-              steps_on {r' = regs_kept x k true} {used = 0} {threads' = solving b ∷ ts} (omega arith) (rw e (omega arith)) stays
+              steps_on {r' = regs_kept x k (Some (branch_from x x.cell))} {used = 0} {threads' = solving b ∷ ts} (omega arith) (rw e (omega arith)) stays
               (goal_in_hand refl G.sound B G.waiting)
               (λ q y ls. ap (λ (t : Tally). run_on q left t ls (solving b ∷ ts)) (none_spent y) ∙ ap (λ (n : ℕ). run_on q n (spent_units 0 y) ls (solving b ∷ ts)) (sym (sub-zero left)))
           go (to_clause {threads = us} X) = absurd (omega (arith, atom_large book ws₁ k x us X))
 
-      pub goal_memo : (s : Regs) → s ≡ regs_kept x k true → Memo book ws r.programs left → MemoReached book ws₁ left (ReachedOn 0 s)
+      pub goal_memo : (s : Regs) → s ≡ regs_kept x k (Some (branch_from x x.cell)) → Memo book ws r.programs left → MemoReached book ws₁ left (ReachedOn 0 s)
       unfolding MemoReached
       goal_memo s se M = rw se (memo_back left M)
 
@@ -126,7 +126,7 @@ module _ {book ws ws' : List ℕ} {left : ℕ} where
           let xe : y ≡ x = cc in
           let ke : i ≡ j = cc in
           let ne : m ≡ n = cc in
-          gives_from L (after_pass {r₀ = regs_kept x j false} (rw (← ne) a) (omega (arith, b, ne)) (rw ne at P) (T (regs_kept x j false) us refl (rw (xe, ke) at X)))
+          gives_from L (after_pass {r₀ = regs_kept x j None} (rw (← ne) a) (omega (arith, b, ne)) (rw ne at P) (T (regs_kept x j None) us refl (rw (xe, ke) at X)))
 
 -- the memo
 module _ (book ws : List ℕ) (left n : ℕ) where

@@ -2,6 +2,7 @@
 use mathlib.Core.Path.{◌≡◌, refl, sym, ◌∙◌, ap}
 use mathlib.Core.Bool.{Bool, true, false, not, ◌&&◌}
 use mathlib.Core.List.{List, ◌∷◌, ◌++◌}
+use Rattle.std.proofs.Common.{None}
 use Rattle.std.specs.Prelude.{Option, Some, None, IfSome, IsSomeAnd}
 use Rattle.std.specs.Option.{ForSome}
 use Prim.Native.Nat.{ℕ, suc, ◌+◌, ◌-◌, ◌*◌, ◌/◌, ◌%◌, ◌≤◌, ◌<◌}
@@ -226,7 +227,7 @@ spent_both : (used n : ℕ) (y : Tally) → spent_units n (spent_units used y) �
 unfolding spent_units
 spent_both used n y = let z : y.units + used + n ≡ y.units + (used + n) = omega arith in rw z refl
 
-pub after_pass : {book ws ws' : List ℕ} {r r₀ : Regs} {left used : ℕ} {threads threads' : List Thread} {s : Stepped} → used ≤ left → phase r₀.solving ≤ 2 * used + phase r.solving → Passes left used threads threads'
+pub after_pass : {book ws ws' : List ℕ} {r r₀ : Regs} {left used : ℕ} {threads threads' : List Thread} {s : Stepped} → used ≤ left → phase r₀.branch ≤ 2 * used + phase r.branch → Passes left used threads threads'
     → StepGives book ws ws' r₀ (left - used) threads' s → StepGives book ws ws' r left threads (later_by used s)
 unfolding later_by
 after_pass {left = left} {used = used} {threads' = us} h f P (steps_on {r' = r'} {used = n} {threads' = vs} a b c d e) =
@@ -277,15 +278,15 @@ module _ (book : List ℕ) (R : Readable book) (A : Accepted book) (ws₀ ws : L
         → (threads : List Thread) → ToClause book ws₀ k x threads → StepGives book ws₀ ws' r left threads t
     pass_next r ws' s t T d threads X = let p = came_to y next used (P threads X) e in rw d (from_there (after_pass {r₀ = r} p.0 (omega arith) p.1.2 (T p.1.0 p.1.1)))
 
-  module _ (y : Back) (used : ℕ) (e : o ≡ Through y used) (g : Regs) (d : g ≡ regs_kept y k false) where
-    pub pass_through : (r : Regs) → r.solving ≡ false → (threads : List Thread) → ToClause book ws₀ k x threads → StepGives book ws₀ ws r left threads (Onward used g)
+  module _ (y : Back) (used : ℕ) (e : o ≡ Through y used) (g : Regs) (d : g ≡ regs_kept y k None) where
+    pub pass_through : (r : Regs) → r.branch ≡ None → (threads : List Thread) → ToClause book ws₀ k x threads → StepGives book ws₀ ws r left threads (Onward used g)
     pass_through r s threads X = rw d (from_there (go (P threads X) e))
       where
-        go : {o : Passed} → PassGives book ws k x left threads o → o ≡ Through y used → StepGives book ws ws r left threads (Onward used (regs_kept y k false))
+        go : {o : Passed} → PassGives book ws k x left threads o → o ≡ Through y used → StepGives book ws ws r left threads (Onward used (regs_kept y k None))
         go (ends {y = a} {used = b} {ts = ts} i h l G Q) e =
             let v : a ≡ y = cc in let w : b ≡ used = cc in
             let G' = rw v at G in
-            steps_on {r' = regs_kept y k false} {used = used} {threads' = ts} (omega (arith, l, w)) (rw s (omega (arith, h, w))) (leaves_none ws) (going_back refl G'.sound G'.waiting) (rw w at Q)
+            steps_on {r' = regs_kept y k None} {used = used} {threads' = ts} (omega (arith, l, w)) (rw s (omega (arith, h, w))) (leaves_none ws) (going_back refl G'.sound G'.waiting) (rw w at Q)
         go (comes i h N Y Q) e = let z : ◌≡◌ {A = ℕ} 0 1 = cc in absurd (omega arith)
 
     pub through_memo : (threads : List Thread) × ToClause book ws₀ k x threads → Memo book ws₀ x.programs left → MemoStepped book ws left (Onward used g)

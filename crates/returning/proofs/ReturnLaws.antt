@@ -1,10 +1,10 @@
 -- Going back to the newest alternative: what was there, by the numbers that the code reads.
 use mathlib.Core.Path.{◌≡◌, refl, sym, ◌∙◌, ap}
-use mathlib.Core.Bool.{Bool, true, false}
 use mathlib.Core.List.{List, [], ◌∷◌}
 use Prim.Native.Nat.{ℕ, suc, ◌+◌, ◌-◌, ◌*◌, ◌≤◌, ◌<◌}
 use native.Mathlib.Omega.{arith}
 use lib.ListN.{get_or}
+use Rattle.std.proofs.Common.{None}
 use Rattle.machine.specs.declared.Ending.TheVariants.{Complete}
 use Rattle.machine.specs.declared.Tally.{Tally}
 use Rattle.machine.specs.Machine.{Thread}
@@ -26,15 +26,15 @@ tops_same : (x : Back) (t : Tops) (k : ℕ) → x.made ≡ t.made → x.trail �
 tops_same x t k a b c d e = rw (a, b, c, d, ← e) refl
 
 -- WHAT THE REGISTERS SAY in the mode of going back
-pub stands_back : {book ws : List ℕ} {r : Regs} {threads : List Thread} → r.solving ≡ false → Stands book ws r threads → Sound book ws (tops_of r) × Waiting book ws (tops_of r) threads
-stands_back e (goal_in_hand s S B W) = let z : ◌≡◌ {A = Bool} true false = sym s ∙ e in let c : ◌≡◌ {A = ℕ} 0 1 = cc in absurd (omega arith)
+pub stands_back : {book ws : List ℕ} {r : Regs} {threads : List Thread} → r.branch ≡ None → Stands book ws r threads → Sound book ws (tops_of r) × Waiting book ws (tops_of r) threads
+stands_back e (goal_in_hand s S B W) = let z = sym s ∙ e in let c : ◌≡◌ {A = ℕ} 0 1 = cc in absurd (omega arith)
 stands_back e (going_back s S W) = (S, W)
 
 none_left : {book ws : List ℕ} {t : Tops} {threads : List Thread} → t.alternatives ≡ 0 → Waiting book ws t threads → threads ≡ []
 none_left e (none_waiting a) = refl
 none_left e (one_waiting a h b c d f S B Y W) = absurd (omega arith)
 
-module _ (book : List ℕ) (ws : List ℕ) (r : Regs) (left : ℕ) (threads : List Thread) (e : r.solving ≡ false) (Z : Stands book ws r threads) where
+module _ (book : List ℕ) (ws : List ℕ) (r : Regs) (left : ℕ) (threads : List Thread) (e : r.branch ≡ None) (Z : Stands book ws r threads) where
   -- none left: the search is complete
   pub complete : r.alternatives ≡ 0 → StepGives book ws ws r left threads (Finished Complete 0)
   unfolding run_on run_out go_on

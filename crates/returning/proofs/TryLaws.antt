@@ -5,6 +5,7 @@ use mathlib.Core.List.{List, ◌∷◌, ◌++◌}
 use Prim.Native.Nat.{ℕ, suc, ◌+◌, ◌-◌, ◌*◌, ◌≤◌, ◌<◌}
 use native.Mathlib.Omega.{arith}
 use lib.Dec.{eqb}
+use Rattle.std.proofs.Common.{Some, None}
 use Rattle.book.specs.Records.{field}
 use Rattle.book.proofs.Accepted.{Accepted}
 use Rattle.machine.specs.declared.Limit.{Limit}
@@ -36,7 +37,7 @@ use Rattle.steps.proofs.BackRuns.{entered_done, entered_failed, entered_stopped}
 use Rattle.steps.proofs.LeaveLaws.{leaves_trans, leaves_between}
 use Rattle.returning.specs.declared.Front.{Front}
 use Rattle.returning.specs.Returns.{atom_of, ToClause}
-use Rattle.returning.specs.Reentry.{Renewed, regs_of, outcome_of}
+use Rattle.returning.specs.Reentry.{Renewed, branch_from, regs_of, outcome_of}
 use Rattle.returning.proofs.CandidateLaws.{clause_now, outer_now, clause_now_lem, can_enter}
 use Rattle.returning.proofs.BodyGoals.{tops_with, made_now, goals_now, agree_renewed, Ready}
 use Rattle.returning.proofs.OutcomeLaws.{outcome_done, outcome_failed, outcome_stopped}
@@ -106,10 +107,10 @@ module _ (book : List ℕ) (R : Readable book) (A : Accepted book) (ws : List �
         by Failed h = rw (← outcome_failed x made n l u h) (memo_still (left - (u.used + 1)) (omega arith) M)
         by (Stopped m) h = rw (← outcome_stopped x made n l u m h) tt
 
-    sound_after : Sound book ws₃ (tops_of (regs_of x made n l u.trail true))
+    sound_after : Sound book ws₃ (tops_of (regs_of x made n l.cells u.trail (Some (branch_from x l.cell))))
     sound_after = enters_sound book (tops_with x x.made l n) ws₂ ws₃ X.a X.e c o (left - 1) u D.sound E
 
-    waiting_after : Waiting book ws₃ (tops_of (regs_of x made n l u.trail true)) behind
+    waiting_after : Waiting book ws₃ (tops_of (regs_of x made n l.cells u.trail (Some (branch_from x l.cell)))) behind
     waiting_after = waiting_enters book (tops_with x x.made l n) ws₂ ws₃ X.a X.e c o (left - 1) u D.sound E (D.waiting N.waiting)
 
     -- the cells and the programs are not touched by entering
@@ -125,7 +126,7 @@ module _ (book : List ℕ) (R : Readable book) (A : Accepted book) (ws : List �
       alternatives = record { size = entered_keeps.size; same = λ i a b. absurd (omega arith) };
     }
 
-    branch_after_lem : IsBranch book ws₃ (tops_of (regs_of x made n l u.trail true)) l.cell x.taken (eqb x.supposed 1) after
+    branch_after_lem : IsBranch book ws₃ (tops_of (regs_of x made n l.cells u.trail (Some (branch_from x l.cell)))) l.cell x.taken (eqb x.supposed 1) after
     branch_after_lem = record {
       goals = goals_agree agree_lists (omega arith) (omega arith) D.goals;
       store = refl;
@@ -149,17 +150,17 @@ module _ (book : List ℕ) (R : Readable book) (A : Accepted book) (ws : List �
     to_there : left - 1 - u.used ≡ left - (u.used + 1)
     to_there = omega arith
 
-    module _ (r : Regs) (back : r.solving ≡ false) where
-      gives_done : u.how ≡ Done → StepGives book ws ws₃ r left threads (Onward (u.used + 1) (regs_of x made n l u.trail true))
+    module _ (r : Regs) (back : r.branch ≡ None) where
+      gives_done : u.how ≡ Done → StepGives book ws ws₃ r left threads (Onward (u.used + 1) (regs_of x made n l.cells u.trail (Some (branch_from x l.cell))))
       gives_done h =
-          steps_on {r' = regs_of x made n l u.trail true} {used = u.used + 1} (omega (arith, used_most)) (omega arith) steps_keep (goal_in_hand refl sound_after branch_after_lem waiting_after)
+          steps_on {r' = regs_of x made n l.cells u.trail (Some (branch_from x l.cell))} {used = u.used + 1} (omega (arith, used_most)) (omega arith) steps_keep (goal_in_hand refl sound_after branch_after_lem waiting_after)
           (λ q y ls. from_here q y ls
           ∙ entered_done book A.formed x.made x.trail ws₂ ws₃ X.a X.e c o (left - 1) u enter_now E (clause_now_lem book R A ws k x threads X).kind X.b store_now X.program cs q y ls X.ts h
           ∙ ap (λ (m : ℕ). run_on q m (spent_units (u.used + 1) y) ls (solving after ∷ behind)) to_there)
 
-      gives_failed : u.how ≡ Failed → StepGives book ws ws₃ r left threads (Onward (u.used + 1) (regs_of x made n l u.trail false))
+      gives_failed : u.how ≡ Failed → StepGives book ws ws₃ r left threads (Onward (u.used + 1) (regs_of x made n l.cells u.trail None))
       gives_failed h =
-          steps_on {r' = regs_of x made n l u.trail false} {used = u.used + 1} (omega (arith, used_most)) (omega arith) steps_keep (going_back refl sound_after waiting_after)
+          steps_on {r' = regs_of x made n l.cells u.trail None} {used = u.used + 1} (omega (arith, used_most)) (omega arith) steps_keep (going_back refl sound_after waiting_after)
           (λ q y ls. from_here q y ls
           ∙ entered_failed book A.formed x.made x.trail ws₂ ws₃ X.a X.e c o (left - 1) u enter_now E (clause_now_lem book R A ws k x threads X).kind X.b store_now X.program cs q y ls X.ts h
           ∙ ap (λ (m : ℕ). run_on q m (spent_units (u.used + 1) y) ls behind) to_there)

@@ -1,9 +1,9 @@
 -- What the code of trying a candidate knows at each of its calls.
 use mathlib.Core.Path.{◌≡◌, refl, ◌∙◌, ap}
-use mathlib.Core.Bool.{false}
 use mathlib.Core.List.{List}
 use Prim.Native.Nat.{ℕ, ◌+◌, ◌-◌, ◌/◌, ◌%◌, ◌≤◌, ◌<◌}
 use native.Mathlib.Omega.{arith}
+use Rattle.std.proofs.Common.{None}
 use Rattle.book.specs.Records.{field, records}
 use Rattle.book.proofs.Accepted.{Accepted}
 use Rattle.machine.specs.declared.Limit.TheVariants.{Variables}
@@ -76,6 +76,6 @@ module _ (book : List ℕ) (R : Readable book) (A : Accepted book) (ws : List �
           tried_memo made me s se M =
               rw (se, me, made_is) (try_memo book R A ws k x threads X ws₁ n (N threads X) room_is ws₂ l ready_is ws₃ left u some enters_is M)
 
-          pub tried : (r : Regs) → r.solving ≡ false → (made : ℕ) → made ≡ x.made + v → (s : Stepped) → s ≡ outcome_of x made n l u → StepGives book ws ws₃ r left threads s
+          pub tried : (r : Regs) → r.branch ≡ None → (made : ℕ) → made ≡ x.made + v → (s : Stepped) → s ≡ outcome_of x made n l u → StepGives book ws ws₃ r left threads s
           tried r back made me s se =
               rw (se, me, made_is) (try_gives book R A ws k x threads X ws₁ n (N threads X) room_is ws₂ l ready_is ws₃ left u some enters_is r back)

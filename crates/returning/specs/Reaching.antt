@@ -18,7 +18,7 @@ use Rattle.returning.specs.Passing.{Passes}
 pub data ReachGives (book ws ws' : List ℕ) (r : Regs) (left : ℕ) (threads : List Thread) : Reached → Type 0 where
   reach_on : {r' : Regs} {used : ℕ} → StepGives book ws ws' r left threads (Onward used r') → ReachGives book ws ws' r left threads (ReachedOn used r')
   reach_end : {e : Ending} {used : ℕ} → StepGives book ws ws' r left threads (Finished e used) → ReachGives book ws ws' r left threads (ReachedEnd e used)
-  reach_clause : {x : Back} {k used : ℕ} {threads' : List Thread} → used ≤ left → 0 < 2 * used + phase r.solving → Leaves ws ws'
+  reach_clause : {x : Back} {k used : ℕ} {threads' : List Thread} → used ≤ left → 0 < 2 * used + phase r.branch → Leaves ws ws'
       → ToClause book ws' k x threads' → Passes left used threads threads' → ReachGives book ws ws' r left threads (Clause used x k)
 
 abbrev pub ReachContract : List ℕ → List ℕ → List ℕ → Regs → ℕ → Reached → Type 0

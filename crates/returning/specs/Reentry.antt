@@ -1,5 +1,5 @@
 -- The next candidate of an atom is tried: where its clause is, the alternative for those after it, its body's cell, and how it came out.
-use Rattle.std.specs.Prelude.{◌≡◌, Bool, true, false, List, ◌++◌, ℕ, ◌+◌, ◌*◌, ◌≤◌, eqb, get_or}
+use Rattle.std.specs.Prelude.{◌≡◌, true, false, List, ◌++◌, ℕ, ◌+◌, ◌*◌, ◌≤◌, eqb, get_or, Option, Some, None}
 use Rattle.book.specs.Records.{field, last_record}
 use Rattle.machine.specs.Machine.{Thread, candidates, try_all}
 use Rattle.machine.specs.declared.Ending.TheVariants.{Stopped as StoppedEnding}
@@ -10,6 +10,7 @@ use Rattle.looks.specs.declared.How.TheVariants.{Done, Failed, Stopped}
 use Rattle.unifier.specs.declared.Unified.{Unified}
 use Rattle.branch.specs.declared.Back.{Back}
 use Rattle.branch.specs.State.{Waiting, put_cell}
+use Rattle.steps.specs.declared.Branch.{Branch as Held}
 use Rattle.steps.specs.declared.Regs.{Regs}
 use Rattle.steps.specs.declared.Stepped.{Stepped}
 use Rattle.steps.specs.declared.Stepped.TheVariants.{Onward, Finished}
@@ -46,18 +47,21 @@ unfoldable pub front_of : List ℕ → ℕ → Back → Front
 front_of book c x = elim (eqb (field book c 5) 1) [ true ↦ record { cell = x.cells; cells = x.cells + 1 } | false ↦ record { cell = x.cell; cells = x.cells } ]
 
 -- the registers after entering: `made` variables, n alternatives
-abbrev pub regs_of : Back → ℕ → ℕ → Front → ℕ → Bool → Regs
-regs_of x made n l trail solving = record
-    { made = made; trail = trail; cells = l.cells; programs = x.programs; alternatives = n; cell = l.cell; taken = x.taken; supposed = eqb x.supposed 1; solving = solving }
+abbrev pub regs_of : Back → ℕ → ℕ → ℕ → ℕ → Option Held → Regs
+regs_of x made n cells trail branch = record { made = made; trail = trail; cells = cells; programs = x.programs; alternatives = n; branch = branch }
+
+-- the branch of an alternative, with this cell for the first of its list
+abbrev pub branch_from : Back → ℕ → Held
+branch_from x cell = record { cell = cell; taken = x.taken; supposed = eqb x.supposed 1 }
 
 -- the registers with the numbers of an alternative, n alternatives left: its branch is in hand again, or, as it has no candidate left, none is
-abbrev pub regs_kept : Back → ℕ → Bool → Regs
-regs_kept x n solving = regs_of x x.made n (record { cell = x.cell; cells = x.cells }) x.trail solving
+abbrev pub regs_kept : Back → ℕ → Option Held → Regs
+regs_kept x n branch = regs_of x x.made n x.cells x.trail branch
 
 -- the clause entered is one unit more than unifying took
 unfoldable pub outcome_by : Back → ℕ → ℕ → Front → ℕ → ℕ → How → Stepped
-outcome_by x made n l trail used Done = Onward (used + 1) (regs_of x made n l trail true)
-outcome_by x made n l trail used Failed = Onward (used + 1) (regs_of x made n l trail false)
+outcome_by x made n l trail used Done = Onward (used + 1) (regs_of x made n l.cells trail (Some (branch_from x l.cell)))
+outcome_by x made n l trail used Failed = Onward (used + 1) (regs_of x made n l.cells trail None)
 outcome_by x made n l trail used (Stopped m) = Finished (StoppedEnding m) (used + 1)
 
 abbrev pub outcome_of : Back → ℕ → ℕ → Front → Unified → Stepped
@@ -65,4 +69,4 @@ outcome_of x made n l u = outcome_by x made n l u.trail u.used u.how
 
 -- what trying the next candidate gives
 abbrev pub Tries : List ℕ → List ℕ → List ℕ → ℕ → Back → ℕ → Stepped → Type 0
-Tries book ws ws' k x left o = (r : Regs) (threads : List Thread) → r.solving ≡ false → ToClause book ws k x threads → StepGives book ws ws' r left threads o
+Tries book ws ws' k x left o = (r : Regs) (threads : List Thread) → r.branch ≡ None → ToClause book ws k x threads → StepGives book ws ws' r left threads o

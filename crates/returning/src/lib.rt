@@ -1,7 +1,7 @@
 // Going back to the newest alternative, and trying the next candidate of its atom.
 #![tactic(auto)]
 
-ghost use Rattle.std.specs.Prelude.{◌≡◌, true, false, List, ℕ, ◌+◌, ◌-◌, ◌*◌, ◌/◌, ◌%◌, ◌≤◌, ◌<◌, length, IfSome, IsSomeAnd};
+ghost use Rattle.std.specs.Prelude.{◌≡◌, true, Some, None, List, ℕ, ◌+◌, ◌-◌, ◌*◌, ◌/◌, ◌%◌, ◌≤◌, ◌<◌, length, IfSome, IsSomeAnd};
 ghost use Rattle.std.specs.Option.{ForSome};
 ghost use Rattle.book.specs.Records.{field as book_field, records};
 ghost use Rattle.book.proofs.Accepted.{Accepted};
@@ -11,7 +11,7 @@ ghost use Rattle.seeking.specs.Seeking.{AllIndexed};
 ghost use Rattle.seeking.specs.Memo.{Memo, MemoStays};
 ghost use Rattle.steps.specs.Search.{Stands, units_of, MemoStepped};
 ghost use Rattle.returning.specs.Returns.{Leads, ToClause};
-ghost use Rattle.returning.specs.Reentry.{place_of, moved, Renewed, body_words, front_of, regs_of, outcome_of, Tries};
+ghost use Rattle.returning.specs.Reentry.{place_of, moved, Renewed, body_words, front_of, branch_from, regs_of, outcome_of, Tries};
 ghost use Rattle.returning.specs.Reaching.{ReachContract, CanGoOn, GoesOn, MemoReached};
 ghost use Rattle.returning.specs.Passing.{first_argument, FirstIs, Clashes, NextIs, PassGives, later_by};
 
@@ -21,7 +21,7 @@ use index::Head;
 use looks::How;
 use machine::{Ending, Limit};
 use seeking::Place;
-use steps::{Regs, Stepped};
+use steps::{Branch, Regs, Stepped};
 use unifier::Unified;
 use words::{Book, Words};
 
@@ -106,9 +106,20 @@ fn put_body(book: &Book, ws: &mut Words, c: u32, x: Back) -> Front
     }
 }
 
+// The branch of an alternative, with this cell for the first of its list.
+fn branch_from(x: Back, cell: u32) -> Branch
+    ensures { result ≡ branch_from x cell }
+{
+    Branch {
+        cell,
+        taken: x.taken,
+        supposed: x.supposed == 1,
+    }
+}
+
 // The registers with an alternative's numbers, n alternatives left: its branch is in hand again, or, as it has no candidate left, none is.
-fn registers(x: Back, n: u32, solving: bool) -> Regs
-    ensures { result ≡ regs_of x x.made n (record { cell = x.cell; cells = x.cells }) x.trail solving }
+fn registers(x: Back, n: u32, branch: Option<Branch>) -> Regs
+    ensures { result ≡ regs_of x x.made n x.cells x.trail branch }
 {
     Regs {
         made: x.made,
@@ -116,10 +127,7 @@ fn registers(x: Back, n: u32, solving: bool) -> Regs
         cells: x.cells,
         programs: x.programs,
         alternatives: n,
-        cell: x.cell,
-        taken: x.taken,
-        supposed: x.supposed == 1,
-        solving,
+        branch,
     }
 }
 
@@ -132,14 +140,13 @@ fn outcome(x: Back, made: u32, n: u32, l: Front, u: Unified) -> Stepped
         made,
         trail: u.trail,
         cells: l.cells,
-        cell: l.cell,
-        ..registers(x, n, false)
+        ..registers(x, n, None)
     };
     match u.how {
         How::Done => Stepped::Onward(
             u.used + 1,
             Regs {
-                solving: true,
+                branch: Some(branch_from(x, l.cell)),
                 ..failed
             },
         ),
@@ -291,7 +298,7 @@ fn try_all(book: &Book, ws: &mut Words, k: u32, x: Back, left: u32) -> Stepped
     ensures memo_stepped { MemoStepped book.now.bytes.now ws.new left result }
 {
     match pass_over(book, ws, k, x, left) {
-        Passed::Through(y, used) => Stepped::Onward(used, registers(y, k, false)),
+        Passed::Through(y, used) => Stepped::Onward(used, registers(y, k, None)),
         Passed::Next(y, next, used) => {
             if left <= used {
                 return Stepped::Finished(Ending::Stopped(Limit::Budget), used);
@@ -313,7 +320,7 @@ pub enum Reached {
 // Goes back to the newest alternative; with none left the search is complete.
 // The book is not read here, so its bytes come as they are: a `Book` would ask more of a caller.
 pub fn back(book: &[u8], ws: &mut Words, r: Regs, left: u32) -> Reached
-    requires solving_value { r.solving ≡ false }
+    requires solving_value { r.branch ≡ None }
     requires stands { (threads : List Thread) × Stands book.now ws.old r threads }
     requires memo { Memo book.now ws.old r.programs left }
     ensures reach_contract { ReachContract book.now ws.old ws.new r left result }
@@ -325,7 +332,7 @@ pub fn back(book: &[u8], ws: &mut Words, r: Regs, left: u32) -> Reached
     let k = r.alternatives - 1;
     let x = branch::go_back(ws, k, r.trail);
     if x.atom == 0 {
-        return Reached::Onward(0, registers(x, k, true));
+        return Reached::Onward(0, registers(x, k, Some(branch_from(x, x.cell))));
     }
     Reached::Clause(0, x, k)
 }

@@ -20,10 +20,11 @@ use Rattle.words.specs.Words.{store_of}
 use Rattle.words.specs.Frame.{Keeps}
 use Rattle.branch.proofs.StateLaws.{sound_agree, waiting_agree}
 use Rattle.seeking.proofs.MemoLaws.{memo_kept}
+use Rattle.steps.specs.declared.Branch.{Branch as Held}
 use Rattle.steps.specs.declared.Regs.{Regs}
 use Rattle.steps.specs.Search.{run_out, run_on, tops_of, back_regs, Stands.going_back}
 use Rattle.steps.proofs.RunLaws.{at_thread}
-use Rattle.std.proofs.Common.{Ok, Err, Result as Answered}
+use Rattle.std.proofs.Common.{Ok, Err, Result as Answered, Some}
 use Rattle.answers.specs.Buffer.{answer_for, reply_of, buffer_after}
 use Rattle.answers.proofs.CallerLaws.{Given, Given.given, Given.stopped, gives}
 use Rattle.running.specs.declared.Turned.TheVariants.{On, Over}
@@ -114,15 +115,15 @@ absurd_answer {ℓ} : {X : Type ℓ} → ◌≡◌ {A = ℕ} 0 1 → X
 absurd_answer z = absurd (omega arith)
 
 module _ (book : List ℕ) (unknowns wanted size budget : ℕ) (ws ws' out out' : List ℕ) (r : Regs) (y : Tally) (end : ℕ) (whole : Result)
-    (T : Taken book unknowns wanted size) (M : Midway book unknowns wanted size budget ws out r y end whole) (s : r.solving ≡ true) (c : r.cell ≡ 0) (l : y.units < budget) (K : Keeps 0 16128 ws ws') where
-  abbrev H : InHand book ws r M.threads
+    (T : Taken book unknowns wanted size) (M : Midway book unknowns wanted size budget ws out r y end whole) {held : Held} (s : r.branch ≡ Some held) (c : held.cell ≡ 0) (l : y.units < budget) (K : Keeps 0 16128 ws ws') where
+  abbrev H : InHand book ws r held M.threads
   H = hand M.stands s
 
   abbrev W : Written
   W = write y.answers (store_of book ws r.made) (size / 8 - length M.lines) [] (unknown_terms unknowns)
 
   abbrev Then : Written → Result
-  Then w = Going (request_of unknowns wanted size) (budget - (y.units + 1)) H.branch H.rest y M.lines r.supposed H.branch_is.supposed_same w
+  Then w = Going (request_of unknowns wanted size) (budget - (y.units + 1)) H.branch H.rest y M.lines held.supposed H.branch_is.supposed_same w
 
   whole_is : whole ≡ Then W
   whole_is =
@@ -140,16 +141,16 @@ module _ (book : List ℕ) (unknowns wanted size budget : ℕ) (ws ws' out out' 
       turns_over (ap (λ z. z.ending) x) (ap (λ z. z.tally) x) (o ∙ ap (λ z. filled_buffer size z.lines) (sym x))
   cut_by m (written ls) a (given g h o) q e = absurd_answer (cc)
 
-  enough_by : (k : ℕ) (z : Tally) (w : Written) (a : Answered ℕ Limit) → Given size M.lines out' w a → a ≡ Ok k → whole ≡ Then w → z ≡ one_more y r.supposed → z.answers ≡ wanted
+  enough_by : (k : ℕ) (z : Tally) (w : Written) (a : Answered ℕ Limit) → Given size M.lines out' w a → a ≡ Ok k → whole ≡ Then w → z ≡ one_more y held.supposed → z.answers ≡ wanted
       → TurnGives book unknowns wanted size budget ws' out' r y whole (Over Enough z)
   unfolding one_more
   enough_by k z (written ls) a (given g h o) q e p u =
       let v : y.answers + 1 ≡ wanted = sym (ap (λ t. t.answers) p) ∙ u in
-      let x : whole ≡ record { ending = Enough; tally = one_more y r.supposed; lines = M.lines ++ ls } = e ∙ run_enough (request_of unknowns wanted size) _ _ _ y M.lines _ H.branch_is.supposed_same ls v in
+      let x : whole ≡ record { ending = Enough; tally = one_more y held.supposed; lines = M.lines ++ ls } = e ∙ run_enough (request_of unknowns wanted size) _ _ _ y M.lines _ H.branch_is.supposed_same ls v in
       turns_over (ap (λ t. t.ending) x) (ap (λ t. t.tally) x ∙ sym p) (o ∙ ap (λ t. filled_buffer size t.lines) (sym x))
   enough_by k z (cut m) a (stopped o) q e p u = absurd_answer (cc)
 
-  more_by : (k : ℕ) (z : Tally) (w : Written) (a : Answered ℕ Limit) → Given size M.lines out' w a → a ≡ Ok k → whole ≡ Then w → z ≡ one_more y r.supposed → (z.answers ≡ wanted → ⊥)
+  more_by : (k : ℕ) (z : Tally) (w : Written) (a : Answered ℕ Limit) → Given size M.lines out' w a → a ≡ Ok k → whole ≡ Then w → z ≡ one_more y held.supposed → (z.answers ≡ wanted → ⊥)
       → TurnGives book unknowns wanted size budget ws' out' r y whole (On z (back_regs r) k)
   unfolding one_more back_regs
   more_by k z (written ls) a (given {e = j} g h o) q e p u =
@@ -168,7 +169,7 @@ module _ (book : List ℕ) (unknowns wanted size budget : ℕ) (ws ws' out out' 
         memo = memo_kept (keeps_narrow (omega arith) (omega (arith, H.sound.programs_most)) K) (keeps_narrow (omega arith) (omega arith) K) (omega arith) (omega arith) M.memo;
         within = omega arith;
         fewer = lt_by y.answers wanted z.answers za M.fewer u;
-        assumed_few = rw p (more_assumed y r.supposed M.assumed_few);
+        assumed_few = rw p (more_assumed y held.supposed M.assumed_few);
         room = omega arith;
         buffer = o;
         end_is = sym i ∙ g;
@@ -185,9 +186,9 @@ module _ (book : List ℕ) (unknowns wanted size budget : ℕ) (ws ws' out out' 
     pub answer_cut : (m : Limit) → a ≡ Err m → TurnGives book unknowns wanted size budget ws' out' r y whole (Over (Stopped m) y)
     answer_cut m q = cut_by m W a G q whole_is
 
-    pub answer_enough : (k : ℕ) (z : Tally) → a ≡ Ok k → z ≡ one_more y r.supposed → z.answers ≡ wanted → TurnGives book unknowns wanted size budget ws' out' r y whole (Over Enough z)
+    pub answer_enough : (k : ℕ) (z : Tally) → a ≡ Ok k → z ≡ one_more y held.supposed → z.answers ≡ wanted → TurnGives book unknowns wanted size budget ws' out' r y whole (Over Enough z)
     answer_enough k z q p u = enough_by k z W a G q whole_is p u
 
-    pub answer_more : (k : ℕ) (z : Tally) (x : Regs) → a ≡ Ok k → z ≡ one_more y r.supposed → (z.answers ≡ wanted → ⊥) → x ≡ back_regs r
+    pub answer_more : (k : ℕ) (z : Tally) (x : Regs) → a ≡ Ok k → z ≡ one_more y held.supposed → (z.answers ≡ wanted → ⊥) → x ≡ back_regs r
         → TurnGives book unknowns wanted size budget ws' out' r y whole (On z x k)
     answer_more k z x q p u xe = rw xe (more_by k z W a G q whole_is p u)

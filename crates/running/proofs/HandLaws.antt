@@ -1,6 +1,5 @@
 -- A branch in hand, and the machine's unit for an answer.
 use mathlib.Core.Path.{◌≡◌, refl, sym, ◌∙◌, ap}
-use mathlib.Core.Bool.{Bool, true, false}
 use mathlib.Core.List.{List, [], ◌∷◌}
 use Prim.Native.Nat.{ℕ, suc, ◌+◌, ◌-◌, ◌≤◌}
 use native.Mathlib.Omega.{arith}
@@ -16,12 +15,14 @@ use Rattle.words.specs.Good.{Slots}
 use Rattle.words.specs.Frame.{Keeps}
 use Rattle.words.proofs.FrameLaws.{fits_most}
 use Rattle.words.proofs.StackLaws.{keeps_narrow}
+use Rattle.std.proofs.Common.{Some, None}
 use Rattle.branch.specs.State.{Tops, IsGoals, IsGoals.no_goals, IsGoals.goal_cell, IsBranch, Sound, Waiting, Agree}
 use Rattle.seeking.specs.Memo.{forget_words, MemoOnly}
 use Rattle.seeking.proofs.MemoLaws.{forget_only, forget_zero, memo_forgotten}
 use Rattle.branch.proofs.FromScoped.{own_ready}
 use Rattle.returning.proofs.MemoFrames.{indexed_only}
 use Rattle.taking.proofs.MemoFrames.{stands_only}
+use Rattle.steps.specs.declared.Branch.{Branch as Held}
 use Rattle.steps.specs.declared.Regs.{Regs}
 use Rattle.steps.specs.Search.{run_out, run_on, tops_of, Stands, Stands.goal_in_hand, Stands.going_back}
 use Rattle.answers.specs.Numbers.{NoNumbers}
@@ -29,17 +30,20 @@ use Rattle.running.specs.Turns.{Taken, Midway}
 use Rattle.steps.proofs.RunLaws.{at_thread, run_step, run_first}
 
 -- what the registers stand for while a branch is in hand
-pub record InHand (book ws : List ℕ) (r : Regs) (threads : List Thread) : Type 0 where
+pub record InHand (book ws : List ℕ) (r : Regs) (held : Held) (threads : List Thread) : Type 0 where
   pub branch : Branch
   pub rest : List Thread
   pub is : threads ≡ solving branch ∷ rest
   pub sound : Sound book ws (tops_of r)
-  pub branch_is : IsBranch book ws (tops_of r) r.cell r.taken r.supposed branch
+  pub branch_is : IsBranch book ws (tops_of r) held.cell held.taken held.supposed branch
   pub waiting : Waiting book ws (tops_of r) rest
 
-pub hand : {book ws : List ℕ} {r : Regs} {threads : List Thread} → Stands book ws r threads → r.solving ≡ true → InHand book ws r threads
-hand (goal_in_hand {b = b} {threads = ts} e S B W) s = record { branch = b; rest = ts; is = refl; sound = S; branch_is = B; waiting = W }
-hand (going_back e S W) s = let z : ◌≡◌ {A = Bool} true false = sym s ∙ e in let c : ◌≡◌ {A = ℕ} 0 1 = cc in absurd (omega arith)
+pub hand : {book ws : List ℕ} {r : Regs} {held : Held} {threads : List Thread} → Stands book ws r threads → r.branch ≡ Some held → InHand book ws r held threads
+hand {book} {ws} {r} {held} (goal_in_hand {held = d} {b = b} {threads = ts} e S B W) s =
+    let z : Some d ≡ Some held = sym e ∙ s in
+    let i : d ≡ held = cc in
+    record { branch = b; rest = ts; is = refl; sound = S; branch_is = rw i at B; waiting = W }
+hand {held = held} (going_back e S W) s = let z : Some held ≡ None = sym s ∙ e in let c : ◌≡◌ {A = ℕ} 0 1 = cc in absurd (omega arith)
 
 -- cell 0 is the empty list
 pub list_empty : {book ws : List ℕ} {made cells programs c : ℕ} {gs : List Todo} → c ≡ 0 → IsGoals book ws made cells programs c gs → gs ≡ []
@@ -66,12 +70,12 @@ answer_agree t {ws} S K =
     }
 
 -- the words have room for the variables made
-pub words_room : {book ws : List ℕ} {r : Regs} {threads : List Thread} → Stands book ws r threads → r.solving ≡ true → r.made ≤ 2048
+pub words_room : {book ws : List ℕ} {r : Regs} {held : Held} {threads : List Thread} → Stands book ws r threads → r.branch ≡ Some held → r.made ≤ 2048
 words_room S s = (hand S s).sound.slots.room
 
 -- AN ANSWER: before it is written, nothing is remembered any more in the words of its variables
 module _ (book : List ℕ) (unknowns wanted size budget : ℕ) (ws out : List ℕ) (r : Regs) (y : Tally) (end : ℕ) (whole : Result) (T : Taken book unknowns wanted size)
-    (M : Midway book unknowns wanted size budget ws out r y end whole) (s : r.solving ≡ true) (ws₁ : List ℕ) (e : ws₁ ≡ forget_words r.made ws) where
+    (M : Midway book unknowns wanted size budget ws out r y end whole) {held : Held} (s : r.branch ≡ Some held) (ws₁ : List ℕ) (e : ws₁ ≡ forget_words r.made ws) where
   abbrev S : Sound book ws (tops_of r)
   S = (hand M.stands s).sound
 

@@ -1,10 +1,10 @@
 -- A turn that is a step, and a turn that finds the budget spent.
 use mathlib.Core.Path.{◌≡◌, refl, sym, ◌∙◌, ap}
-use mathlib.Core.Bool.{Bool, true, false, ◌&&◌}
+use mathlib.Core.Bool.{Bool, true, false}
 use mathlib.Core.List.{List}
 use Prim.Native.Nat.{ℕ, ◌+◌, ◌-◌, ◌<◌}
 use native.Mathlib.Omega.{arith}
-use borrow.Author.Tests.{eqb-true, eqb-false}
+use borrow.Author.Tests.{eqb-true, eqb-false, eq-eqb, ne_eqb}
 use lib.Dec.{eqb}
 use Rattle.machine.specs.declared.Limit.TheVariants.{Budget}
 use Rattle.machine.specs.declared.Ending.TheVariants.{Stopped}
@@ -12,6 +12,7 @@ use Rattle.machine.specs.declared.Tally.{Tally}
 use Rattle.machine.specs.Machine.{Thread}
 use Rattle.machine.specs.Run.{Result}
 use Rattle.machine.specs.Call.{filled_buffer}
+use Rattle.steps.specs.declared.Branch.{Branch as Held}
 use Rattle.steps.specs.declared.Regs.{Regs}
 use Rattle.steps.specs.declared.Stepped.{Stepped}
 use Rattle.returning.specs.declared.Reached.{Reached}
@@ -23,33 +24,50 @@ use Rattle.running.specs.declared.Turned.{Turned}
 use Rattle.running.specs.declared.Turned.TheVariants.{Over}
 use Rattle.seeking.proofs.SeekChain.{all_same}
 use Rattle.branch.proofs.FromScoped.{own_ready}
-use Rattle.running.specs.Turns.{answer_due, Taken, request_of, Midway, TurnGives, TurnGives.turns_on, TurnGives.turns_over, turn_by}
+use Rattle.std.proofs.Common.{Option, Some, None}
+use Rattle.running.specs.Turns.{answer_due, answer_due_by, Taken, request_of, Midway, TurnGives, TurnGives.turns_on, TurnGives.turns_over, turn_by}
 use Rattle.running.proofs.HandLaws.{hand}
 
+-- no branch in hand
+pub none_held : (x : Option Held) → ((held : Held) → x ≡ Some held → ⊥) → x ≡ None
+none_held (Some held) n = absurd (n held refl)
+none_held None n = refl
+
 -- WHETHER AN ANSWER IS DUE
-module _ (r : Regs) where
-  pub due_hand : (t : Bool) → r.solving ≡ true → t ≡ eqb r.cell 0 → t ≡ answer_due r
-  unfolding answer_due
-  due_hand t s e = rw (answer_due, s) e
+pub due_hand : (held : Held) (x : Option Held) → x ≡ Some held → held.cell ≡ 0 → Some held ≡ answer_due_by x
+unfolding answer_due_by
+due_hand held x e d = let z : eqb held.cell 0 ≡ true = eq-eqb held.cell 0 d in rw e (rw (answer_due_by, z) refl)
 
-  pub due_back : r.solving ≡ false → r.solving ≡ answer_due r
-  unfolding answer_due
-  due_back s = s ∙ rw (answer_due, s) refl
+pub due_goal : (held : Held) (x : Option Held) → x ≡ Some held → (held.cell ≡ 0 → ⊥) → None ≡ answer_due_by x
+unfolding answer_due_by
+due_goal held x e d = let z : eqb held.cell 0 ≡ false = ne_eqb held.cell 0 d in rw e (rw (answer_due_by, z) refl)
 
-  pub due_yes : (t : Bool) → t ≡ answer_due r → t ≡ true → (r.solving ≡ true) × (r.cell ≡ 0)
-  unfolding answer_due
-  due_yes t e d = go r.solving refl
+pub due_back : (x : Option Held) → x ≡ None → None ≡ answer_due_by x
+unfolding answer_due_by
+due_back x e = rw e refl
+
+due_cell : (d held : Held) (t : Bool) → eqb d.cell 0 ≡ t → ◌≡◌ {A = Option Held} (elim t [ true ↦ Some d | false ↦ None ]) (Some held) → (Some d ≡ Some held) × (held.cell ≡ 0)
+due_cell d held true e z = let i : d ≡ held = cc in (z, rw i at (eqb-true d.cell 0 e))
+due_cell d held false e z = let w : ◌≡◌ {A = ℕ} 0 1 = cc in absurd (omega arith)
+
+due_from : (held : Held) (x : Option Held) → answer_due_by x ≡ Some held → (x ≡ Some held) × (held.cell ≡ 0)
+unfolding answer_due_by
+due_from held (Some d) z = due_cell d held (eqb d.cell 0) refl z
+due_from held None z = let w : ◌≡◌ {A = ℕ} 0 1 = cc in absurd (omega arith)
+
+module _ (r : Regs) (held : Held) where
+  pub due_yes : (t : Option Held) → t ≡ answer_due r → t ≡ Some held → (r.branch ≡ Some held) × (held.cell ≡ 0)
+  due_yes t e d = due_from held r.branch (sym e ∙ d)
+
+  pub due_no : answer_due r ≡ None → r.branch ≡ Some held → 0 < held.cell
+  due_no e s = no (eqb held.cell 0) refl (ap answer_due_by (sym s) ∙ e)
     where
-      go : (b : Bool) → r.solving ≡ b → (r.solving ≡ true) × (r.cell ≡ 0)
-      go true s = let z : (true && eqb r.cell 0) ≡ true = ap (λ (b : Bool). b && eqb r.cell 0) (sym s) ∙ sym e ∙ d in (s, eqb-true r.cell 0 z)
-      go false s = let z : ◌≡◌ {A = Bool} false true = ap (λ (b : Bool). b && eqb r.cell 0) (sym s) ∙ sym e ∙ d in let w : ◌≡◌ {A = ℕ} 0 1 = cc in absurd (omega arith)
-
-  pub due_no : answer_due r ≡ false → r.solving ≡ true → 0 < r.cell
-  unfolding answer_due
-  due_no e s = let z : eqb r.cell 0 ≡ false = ap (λ (b : Bool). b && eqb r.cell 0) (sym s) ∙ e in let n = eqb-false r.cell 0 z in omega arith
+      no : (t : Bool) → eqb held.cell 0 ≡ t → answer_due_by (Some held) ≡ None → 0 < held.cell
+      no true q z = let w : Some held ≡ None = due_hand held (Some held) refl (eqb-true held.cell 0 q) ∙ z in let c : ◌≡◌ {A = ℕ} 0 1 = cc in absurd (omega arith)
+      no false q z = let n = eqb-false held.cell 0 q in omega arith
 
 -- a goal is to be taken, and the budget is spent
-pub goal_spent : {book ws : List ℕ} {r : Regs} {left : ℕ} → r.solving ≡ true → left ≡ 0 → ReachContract book ws ws r left (Finished (Stopped Budget) 0)
+pub goal_spent : {book ws : List ℕ} {r : Regs} {held : Held} {left : ℕ} → r.branch ≡ Some held → left ≡ 0 → ReachContract book ws ws r left (Finished (Stopped Budget) 0)
 goal_spent s z threads Z =
     let H = hand Z s in
     reach_end (steps_end {e = Stopped Budget} {used = 0} (omega arith) refl
@@ -95,7 +113,7 @@ module _ (book : List ℕ) (unknowns wanted size budget : ℕ) (ws out : List �
   pub step_turns : (ws' : List ℕ) (left : ℕ) (s : Stepped) (o : Turned) → left ≡ budget - y.units → StepContract book ws ws' r left s → MemoStepped book ws' left s → o ≡ turn_by y end s → TurnGives book unknowns wanted size budget ws' out r y whole o
   step_turns ws' left s o e S m q = rw q (turned ws' left s e (S M.threads M.stands) m)
 
-  pub budget_spent : (left : ℕ) → r.solving ≡ true → left ≡ budget - y.units → left ≡ 0 → TurnGives book unknowns wanted size budget ws out r y whole (Over (Stopped Budget) y)
+  pub budget_spent : {held : Held} (left : ℕ) → r.branch ≡ Some held → left ≡ budget - y.units → left ≡ 0 → TurnGives book unknowns wanted size budget ws out r y whole (Over (Stopped Budget) y)
   budget_spent left s e z =
       let H = hand M.stands s in
       let w : whole ≡ record { ending = Stopped Budget; tally = y; lines = M.lines } =

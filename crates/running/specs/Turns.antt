@@ -1,5 +1,5 @@
 -- The run, one turn after another: what the code keeps between two turns, and what a turn gives.
-use Rattle.std.specs.Prelude.{◌≡◌, Bool, true, false, ◌&&◌, List, ℕ, ◌+◌, ◌-◌, ◌*◌, ◌/◌, ◌≤◌, ◌<◌, eqb, length}
+use Rattle.std.specs.Prelude.{◌≡◌, Bool, true, false, Option, Some, None, List, ℕ, ◌+◌, ◌-◌, ◌*◌, ◌/◌, ◌≤◌, ◌<◌, eqb, length}
 use Rattle.book.specs.Records.{field, last_record}
 use Rattle.book.proofs.Accepted.{Accepted}
 use Rattle.machine.specs.declared.Ending.{Ending}
@@ -8,6 +8,7 @@ use Rattle.machine.specs.Machine.{Thread}
 use Rattle.machine.specs.Answers.{Line}
 use Rattle.machine.specs.Run.{Request, Result}
 use Rattle.machine.specs.Call.{filled_buffer}
+use Rattle.steps.specs.declared.Branch.{Branch as Held}
 use Rattle.steps.specs.declared.Regs.{Regs}
 use Rattle.steps.specs.declared.Stepped.{Stepped}
 use Rattle.steps.specs.declared.Stepped.TheVariants.{Onward, Finished}
@@ -47,7 +48,7 @@ pub record Midway (book : List ℕ) (unknowns wanted size budget : ℕ) (ws out 
 
 -- how much is ahead of the run at most: it falls with each turn
 abbrev pub ahead : ℕ → Regs → Tally → ℕ
-ahead budget r y = 2 * (budget - y.units) + phase r.solving
+ahead budget r y = 2 * (budget - y.units) + phase r.branch
 
 -- what a turn gives: the run is midway again; or it has ended so
 pub data TurnGives (book : List ℕ) (unknowns wanted size budget : ℕ) (ws' out' : List ℕ) (r : Regs) (y : Tally) (whole : Result) : Turned → Type 0 where
@@ -56,9 +57,13 @@ pub data TurnGives (book : List ℕ) (unknowns wanted size budget : ℕ) (ws' ou
   turns_over : {e : Ending} {y' : Tally} → whole.ending ≡ e → whole.tally ≡ y' → out' ≡ filled_buffer size whole.lines
       → TurnGives book unknowns wanted size budget ws' out' r y whole (Over e y')
 
--- the list of goals of the branch in hand is empty
-unfoldable pub answer_due : Regs → Bool
-answer_due r = r.solving && eqb r.cell 0
+-- the list of goals of the branch in hand is empty: that branch
+unfoldable pub answer_due_by : Option Held → Option Held
+answer_due_by (Some held) = elim (eqb held.cell 0) [ true ↦ Some held | false ↦ None ]
+answer_due_by None = None
+
+abbrev pub answer_due : Regs → Option Held
+answer_due r = answer_due_by r.branch
 
 -- one unit and one answer more on a tally
 unfoldable pub one_more : Tally → Bool → Tally

@@ -1,7 +1,7 @@
 // The run of an accepted call: steps and answers, one turn after another, until it ends.
 #![tactic(auto)]
 
-ghost use Rattle.std.specs.Prelude.{◌≡◌, true, false, List, [], ◌∷◌, ◌+◌, ◌≤◌, ◌<◌, length, replicate};
+ghost use Rattle.std.specs.Prelude.{◌≡◌, Some, None, List, [], ◌∷◌, ◌+◌, ◌≤◌, ◌<◌, length, replicate};
 ghost use Rattle.book.specs.Decode.{question_of};
 ghost use Rattle.machine.specs.Run.{Result, start as start_of};
 ghost use Rattle.machine.specs.Call.{no_counts, run_of, filled_buffer};
@@ -15,7 +15,7 @@ ghost use Rattle.running.specs.Turns.{answer_due, Taken, Midway, TurnGives, one_
 
 use machine::{Ending, Limit, Tally};
 use returning::Reached;
-use steps::{Regs, Stepped};
+use steps::{Branch, Regs, Stepped};
 use words::{Book, Words};
 
 // A turn of the run: it goes on, with the tally, the registers and the end of what is written; or it has ended.
@@ -81,13 +81,14 @@ fn answer(
     ws: &mut Words,
     out: &mut [u8],
     r: Regs,
+    b: Branch,
     y: Tally,
     end: usize,
     asked: Asked,
 ) -> Turned
     requires taken { Taken book.now.bytes.now asked.unknowns asked.wanted (length out.old) }
     requires midway { (whole : Result) × Midway book.now.bytes.now asked.unknowns asked.wanted (length out.old) asked.budget ws.old out.old r y end whole }
-    requires solving_value { (r.solving ≡ true) × (r.cell ≡ 0) × (y.units < asked.budget) }
+    requires solving_value { (r.branch ≡ Some b) × (b.cell ≡ 0) × (y.units < asked.budget) }
     ensures { (whole : Result) → Midway book.now.bytes.now asked.unknowns asked.wanted (length out.old) asked.budget ws.old out.old r y end whole
         → TurnGives book.now.bytes.now asked.unknowns asked.wanted (length out.old) asked.budget ws.new out.new r y whole result }
 {
@@ -96,7 +97,7 @@ fn answer(
     match answers::write_answer(book, r.made, ws, out, end, k, asked.unknowns) {
         Err(limit) => Turned::Over(Ending::Stopped(limit), y),
         Ok(e) => {
-            let z = count_answer(y, r.supposed);
+            let z = count_answer(y, b.supposed);
             if z.answers == asked.wanted {
                 return Turned::Over(Ending::Enough, z);
             }
@@ -105,29 +106,30 @@ fn answer(
     }
 }
 
-// Whether an answer is due: the list of goals of the branch in hand is empty.
-fn answer_due(r: Regs) -> bool
+// The branch in hand whose list of goals is empty: an answer is due.
+fn answer_due(r: Regs) -> Option<Branch>
     ensures { result ≡ answer_due r }
 {
-    r.solving && r.cell == 0
+    let b = r.branch?;
+    if b.cell == 0 { Some(b) } else { None }
 }
 
 // Goes back; or, with a branch in hand, takes its next goal, if the budget has a unit left.
 fn reach(book: &Book, ws: &mut Words, r: Regs, left: u32) -> Reached
     requires accepted { Accepted book.now.bytes.now × AllIndexed book.now.bytes.now ws.old }
-    requires r_value { answer_due r ≡ false }
+    requires r_value { answer_due r ≡ None }
     requires stands { (threads : List Thread) × Stands book.now.bytes.now ws.old r threads }
     requires memo { Memo book.now.bytes.now ws.old r.programs left }
     ensures reach_contract { ReachContract book.now.bytes.now ws.old ws.new r left result }
     ensures memo_reached { MemoReached book.now.bytes.now ws.new left result }
 {
-    if !r.solving {
+    let Some(b) = r.branch else {
         return returning::back(book.bytes, ws, r, left);
-    }
+    };
     if left == 0 {
         return Reached::Finished(Ending::Stopped(Limit::Budget), 0);
     }
-    taking::take(book, ws, r, left)
+    taking::take(book, ws, r, b, left)
 }
 
 // One turn: an answer; or a step, which goes back or takes the next goal, and tries the candidate to which that leads. A unit is done only if the budget
@@ -147,11 +149,11 @@ fn turn(
         → TurnGives book.now.bytes.now asked.unknowns asked.wanted (length out.old) asked.budget ws.new out.new r y whole result }
 {
     let left = asked.budget - y.units;
-    if answer_due(r) {
+    if let Some(b) = answer_due(r) {
         if left == 0 {
             return Turned::Over(Ending::Stopped(Limit::Budget), y);
         }
-        return answer(book, ws, out, r, y, end, asked);
+        return answer(book, ws, out, r, b, y, end, asked);
     }
     let o = reach(book, ws, r, left);
     let s = returning::go_on(book, ws, o, left);

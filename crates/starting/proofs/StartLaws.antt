@@ -35,6 +35,7 @@ use Rattle.words.specs.Words.{term_word, entry_w, store_of}
 use Rattle.words.specs.Frame.{Keeps}
 use Rattle.branch.specs.State.{IsRest, IsRest.own_rest, IsProgram, IsGoals, IsGoals.no_goals, IsGoals.goal_cell, Sound, Waiting.none_waiting, own_run, rest_of, put_cell}
 use Rattle.branch.proofs.TakeLaws.{put_outside, cell_word}
+use Rattle.std.proofs.Common.{Some}
 use Rattle.steps.specs.declared.Regs.{Regs}
 use Rattle.steps.specs.Search.{tops_of, Stands, Stands.goal_in_hand}
 use Rattle.running.specs.Turns.{Taken}
@@ -158,7 +159,7 @@ module _ (book : List ℕ) (A : Accepted book) where
 
   pub set_up_done : (goal unknowns : ℕ) (ws ws' : List ℕ) → goal ≡ field book (last_record book) 3 → unknowns ≡ field book (last_record book) 4
       → ws' ≡ put_cell 1 (4096 * (goal + 1)) 0 0 ws
-      → (record { made = unknowns; trail = 0; cells = 2; programs = 1; alternatives = 0; cell = 1; taken = 0; supposed = false; solving = true } ≡ start_regs book) × (ws' ≡ start_words book ws)
+      → (◌≡◌ {A = Regs} (record { made = unknowns; trail = 0; cells = 2; programs = 1; alternatives = 0; branch = Some (record { cell = 1; taken = 0; supposed = false }) }) (start_regs book)) × (ws' ≡ start_words book ws)
   unfolding start_regs start_words term_word
   set_up_done goal unknowns ws ws' a b e = (rw b refl, e ∙ rw (a, add-zero (4096 * (field book (last_record book) 3 + 1))) refl)
 

@@ -1,5 +1,5 @@
 -- The start of a run in the workspace: one goal cell, with the question's goal and its own clauses for a program; every unknown open.
-use Rattle.std.specs.Prelude.{true, false, List, ℕ, ◌≤◌, ◌<◌, ◌≡◌, length, get_or, replicate}
+use Rattle.std.specs.Prelude.{false, Some, List, ℕ, ◌≤◌, ◌<◌, ◌≡◌, length, get_or, replicate}
 use Rattle.book.proofs.Accepted.{Accepted}
 use Rattle.machine.specs.declared.Ending.{Ending}
 use Rattle.machine.specs.declared.Tally.{Tally}
@@ -14,7 +14,7 @@ start_words book ws = put_cell 1 (term_word (field book (last_record book) 3) 0)
 
 unfoldable pub start_regs : List ℕ → Regs
 start_regs book = record
-    { made = field book (last_record book) 4; trail = 0; cells = 2; programs = 1; alternatives = 0; cell = 1; taken = 0; supposed = false; solving = true }
+    { made = field book (last_record book) 4; trail = 0; cells = 2; programs = 1; alternatives = 0; branch = Some (record { cell = 1; taken = 0; supposed = false }) }
 
 -- What the whole run is ready for: an accepted book; a workspace whose first slots, for the unknowns, and whose words for the memo are 0, the others anything;
 -- an answer buffer that is all zero; and nothing counted yet.

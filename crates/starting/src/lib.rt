@@ -10,7 +10,7 @@ ghost use Rattle.starting.specs.Start.{start_words, start_regs, Ready, After};
 use index::Run;
 use machine::Tally;
 use running::Ran;
-use steps::Regs;
+use steps::{Branch, Regs};
 use words::{Book, Words};
 
 // Makes the index of the question's own clauses.
@@ -37,10 +37,11 @@ fn set_up(book: &Book, ws: &mut Words) -> Regs
         cells: 2,
         programs: 1,
         alternatives: 0,
-        cell: 1,
-        taken: 0,
-        supposed: false,
-        solving: true,
+        branch: Some(Branch {
+            cell: 1,
+            taken: 0,
+            supposed: false,
+        }),
     }
 }
 

@@ -1,5 +1,5 @@
 -- The run by its threads: what the machine does from a list of threads, the first in hand, and how the code's registers stand for that list.
-use Rattle.std.specs.Prelude.{◌≡◌, Bool, true, false, List, ◌∷◌, ℕ, ◌+◌, ◌-◌, ◌*◌, ◌≤◌, ◌<◌, length}
+use Rattle.std.specs.Prelude.{◌≡◌, Option, Some, None, List, ◌∷◌, ℕ, ◌+◌, ◌-◌, ◌*◌, ◌≤◌, ◌<◌, length}
 use Rattle.machine.specs.declared.Ending.{Ending}
 use Rattle.machine.specs.declared.Tally.{Tally}
 use Rattle.machine.specs.Machine.{Thread, solving, Branch}
@@ -8,6 +8,7 @@ use Rattle.machine.specs.Run.{Request, Outgoing, next, ended, go_on, Result, run
 use Rattle.words.specs.Frame.{Keeps}
 use Rattle.branch.specs.State.{Tops, IsBranch, Sound, Waiting}
 use Rattle.seeking.specs.Memo.{Memo}
+use Rattle.steps.specs.declared.Branch.{Branch as Held}
 use Rattle.steps.specs.declared.Regs.{Regs}
 use Rattle.steps.specs.declared.Stepped.{Stepped}
 use Rattle.steps.specs.declared.Stepped.TheVariants.{Onward, Finished}
@@ -29,14 +30,13 @@ tops_of r = record { made = r.made; trail = r.trail; cells = r.cells; programs =
 
 -- going back: there is no branch in hand
 unfoldable pub back_regs : Regs → Regs
-back_regs r = record
-    { made = r.made; trail = r.trail; cells = r.cells; programs = r.programs; alternatives = r.alternatives; cell = 0; taken = 0; supposed = false; solving = false }
+back_regs r = record { made = r.made; trail = r.trail; cells = r.cells; programs = r.programs; alternatives = r.alternatives; branch = None }
 
 -- THE REPRESENTATION: the registers and the workspace stand for the threads. In the mode of going back there is no thread in hand.
 pub data Stands (book ws : List ℕ) (r : Regs) : List Thread → Type 0 where
-  goal_in_hand : {b : Branch} {threads : List Thread} → r.solving ≡ true → Sound book ws (tops_of r)
-      → IsBranch book ws (tops_of r) r.cell r.taken r.supposed b → Waiting book ws (tops_of r) threads → Stands book ws r (solving b ∷ threads)
-  going_back : {threads : List Thread} → r.solving ≡ false → Sound book ws (tops_of r) → Waiting book ws (tops_of r) threads → Stands book ws r threads
+  goal_in_hand : {held : Held} {b : Branch} {threads : List Thread} → r.branch ≡ Some held → Sound book ws (tops_of r)
+      → IsBranch book ws (tops_of r) held.cell held.taken held.supposed b → Waiting book ws (tops_of r) threads → Stands book ws r (solving b ∷ threads)
+  going_back : {threads : List Thread} → r.branch ≡ None → Sound book ws (tops_of r) → Waiting book ws (tops_of r) threads → Stands book ws r threads
 
 -- what a step leaves alone: the index of the question's own run, and the words between the alternatives and the memo
 pub record Leaves (ws ws' : List ℕ) : Type 0 where
@@ -44,14 +44,14 @@ pub record Leaves (ws ws' : List ℕ) : Type 0 where
   pub free : Keeps 12304 13328 ws ws'
 
 -- 1 while going back, 0 with a branch in hand: a step without a unit can only go from the first to the second, so the search ends
-abbrev pub phase : Bool → ℕ
-phase true = 0
-phase false = 1
+abbrev pub phase : Option Held → ℕ
+phase (Some held) = 0
+phase None = 1
 
 -- WHAT ONE STEP OF THE CODE GIVES, with `left` units of the budget: it goes on, with so many units; or the run has ended.
 -- A step takes a goal, or goes back and, if the alternative is a clause, enters it and unifies.
 pub data StepGives (book ws ws' : List ℕ) (r : Regs) (left : ℕ) (threads : List Thread) : Stepped → Type 0 where
-  steps_on : {r' : Regs} {used : ℕ} {threads' : List Thread} → used ≤ left → phase r'.solving < 2 * used + phase r.solving → Leaves ws ws'
+  steps_on : {r' : Regs} {used : ℕ} {threads' : List Thread} → used ≤ left → phase r'.branch < 2 * used + phase r.branch → Leaves ws ws'
       → Stands book ws' r' threads'
       → ((q : Request) (y : Tally) (ls : List Line) → run_on q left y ls threads ≡ run_on q (left - used) (spent_units used y) ls threads')
       → StepGives book ws ws' r left threads (Onward used r')

@@ -9,6 +9,14 @@ use machine::Ending;
 use unifier::Unified;
 use words::{Book, Words};
 
+// A branch in hand: the first cell of its list of goals (0: the list is empty), how many goals were taken on it, and whether a suppose goal was.
+#[derive(Clone, Copy)]
+pub struct Branch {
+    pub cell: u32,
+    pub taken: u32,
+    pub supposed: bool,
+}
+
 // The registers of the search: how much of each region is in use, and the branch in hand, if there is one.
 #[derive(Clone, Copy)]
 pub struct Regs {
@@ -17,10 +25,7 @@ pub struct Regs {
     pub cells: u32,
     pub programs: u32,
     pub alternatives: u32,
-    pub cell: u32,
-    pub taken: u32,
-    pub supposed: bool,
-    pub solving: bool,
+    pub branch: Option<Branch>,
 }
 
 // What a step gives: the registers and the units that it took; or the run has ended, after so many units.
@@ -35,13 +40,7 @@ pub enum Stepped {
 pub fn to_back(r: Regs) -> Regs
     ensures { result ≡ back_regs r }
 {
-    Regs {
-        cell: 0,
-        taken: 0,
-        supposed: false,
-        solving: false,
-        ..r
-    }
+    Regs { branch: None, ..r }
 }
 
 // Enters clause c, whose outer variables are from o on, for atom a at base e, and unifies.

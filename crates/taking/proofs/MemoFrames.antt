@@ -20,6 +20,7 @@ use Rattle.branch.proofs.TakeLaws.{put_outside}
 use Rattle.branch.proofs.KeepLaws.{kept_outside}
 use Rattle.seeking.proofs.MemoLaws.{memo_kept, memo_less, memo_put, tops_only}
 use Rattle.following.specs.declared.Followed.{Followed}
+use Rattle.steps.specs.declared.Branch.{Branch as Held}
 use Rattle.steps.specs.declared.Regs.{Regs}
 use Rattle.steps.specs.declared.Stepped.{Stepped}
 use Rattle.steps.specs.Search.{back_regs, Stands, Stands.goal_in_hand, Stands.going_back, StepGives, StepGives.steps_on, StepGives.steps_end}
@@ -34,7 +35,7 @@ use Rattle.taking.proofs.HandLaws.{put_program_outside, program_mark}
 
 -- NOTHING BUT THE MEMO DIFFERS
 pub stands_only : {book ws ws' : List ℕ} {r : Regs} {threads : List Thread} → MemoOnly ws ws' → Stands book ws r threads → Stands book ws' r threads
-stands_only O (goal_in_hand {b = b} {threads = threads} e S B W) = let A = tops_only S O in goal_in_hand {b = b} {threads = threads} e (sound_agree A S) (branch_agree A B) (waiting_agree A S W)
+stands_only O (goal_in_hand {held = held} {b = b} {threads = threads} e S B W) = let A = tops_only S O in goal_in_hand {held = held} {b = b} {threads = threads} e (sound_agree A S) (branch_agree A B) (waiting_agree A S W)
 stands_only O (going_back e S W) = let A = tops_only S O in going_back e (sound_agree A S) (waiting_agree A S W)
 
 step_only : {book ws₀ ws ws' : List ℕ} {r : Regs} {left : ℕ} {threads : List Thread} {s : Stepped} → MemoOnly ws ws' → StepGives book ws₀ ws r left threads s → StepGives book ws₀ ws' r left threads s
@@ -67,33 +68,33 @@ pub memo_ended : (book ws : List ℕ) (left : ℕ) (e : Ending) (used : ℕ) →
 unfolding MemoReached
 memo_ended book ws left e used = tt
 
-module _ (book ws : List ℕ) (r : Regs) (x : Cell) (left : ℕ) (M : Memo book ws r.programs left) where
-  by_candidate : (ws' : List ℕ) → Memo book ws' r.programs left → (o : Option Place) → MemoReached book ws' left (atom_reached r x o)
+module _ (book ws : List ℕ) (r : Regs) (held : Held) (x : Cell) (left : ℕ) (M : Memo book ws r.programs left) where
+  by_candidate : (ws' : List ℕ) → Memo book ws' r.programs left → (o : Option Place) → MemoReached book ws' left (atom_reached r held x o)
   unfolding MemoReached atom_reached atom_kept back_regs
   by_candidate ws' N (Some p) = memo_less (omega arith) (omega arith) N
   by_candidate ws' N None = memo_less (omega arith) (omega arith) N
 
-  pub memo_atom : (ws' : List ℕ) (o : Reached) → AtomTaken book ws r x o → MemoStays book r.programs ws ws' → MemoReached book ws' left o
+  pub memo_atom : (ws' : List ℕ) (o : Reached) → AtomTaken book ws r held x o → MemoStays book r.programs ws ws' → MemoReached book ws' left o
   memo_atom ws' o T S = rw T.is (by_candidate ws' (S.1 left M) T.candidate)
 
-  module _ (R : Room ws r x) (ws' : List ℕ) (y : Regs) where
-    pub memo_and : ws' ≡ and_words book r x ws → y ≡ and_regs r → MemoReached book ws' left (Onward 1 y)
+  module _ (R : Room ws r held x) (ws' : List ℕ) (y : Regs) where
+    pub memo_and : ws' ≡ and_words book r x ws → y ≡ and_regs r held → MemoReached book ws' left (Onward 1 y)
     unfolding MemoReached and_words and_regs in_hand
     memo_and e d = rw (e, d) (memo_less (omega arith) (omega arith) (memo_cell (memo_cell M r.cells _ _ _ (omega (arith, R.1.2))) (r.cells + 1) _ _ _ R.1.2))
 
-    pub memo_or : ws' ≡ or_words book r x ws → y ≡ or_regs r → MemoReached book ws' left (Onward 1 y)
+    pub memo_or : ws' ≡ or_words book r held x ws → y ≡ or_regs r held → MemoReached book ws' left (Onward 1 y)
     unfolding MemoReached or_words or_regs in_hand
     memo_or e d =
         let w = term_word (field book x.goal 2) x.base in
         let size : length (put_cell r.cells w x.program x.next ws) ≡ 16384 = (put_outside 0 0 r.cells w x.program x.next ws (inr (omega arith))).size ∙ R.1.6 in
         let one = memo_cell M r.cells w x.program x.next (omega (arith, R.1.2)) in
-        let two = memo_alternative one r.alternatives (or_kept r) R.1.4 size (omega (arith, R.1.3)) in
+        let two = memo_alternative one r.alternatives (or_kept r held) R.1.4 size (omega (arith, R.1.3)) in
         rw (e, d) (memo_less (omega arith) (omega arith) (memo_cell two (r.cells + 1) _ _ _ R.1.2))
 
-    pub memo_suppose : 0 < left → ws' ≡ suppose_words book r x left ws → y ≡ suppose_regs r → MemoReached book ws' left (Onward 1 y)
+    pub memo_suppose : 0 < left → ws' ≡ suppose_words book r x left ws → y ≡ suppose_regs r held → MemoReached book ws' left (Onward 1 y)
     unfolding MemoReached suppose_words suppose_regs in_hand
     memo_suppose h e d = rw (e, d) (memo_cell (memo_program M (term_word x.goal x.base) x.program R.1.6 R.1.3 h) r.cells _ _ _ (omega (arith, R.1.2)))
 
-    pub memo_plain : (p : Followed) → ws' ≡ plain_words r x p ws → y ≡ plain_regs r p → MemoReached book ws' left (Onward (2 * p.rules) y)
+    pub memo_plain : (p : Followed) → ws' ≡ plain_words r x p ws → y ≡ plain_regs r held p → MemoReached book ws' left (Onward (2 * p.rules) y)
     unfolding MemoReached plain_words plain_regs
     memo_plain p e d = rw (e, d) (memo_less (omega arith) (omega arith) (memo_cell M r.cells _ _ _ (omega (arith, R.1.2))))

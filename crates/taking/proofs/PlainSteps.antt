@@ -16,6 +16,7 @@ use Rattle.branch.proofs.TakeLaws.{CellAt}
 use Rattle.following.specs.declared.Followed.{Followed}
 use Rattle.following.specs.Plain.{own_program}
 use Rattle.following.proofs.PlainRuns.{along, chain_goal, chain_runs}
+use Rattle.steps.specs.declared.Branch.{Branch as Held}
 use Rattle.steps.specs.declared.Regs.{Regs}
 use Rattle.steps.specs.declared.Stepped.TheVariants.{Onward}
 use Rattle.steps.proofs.LeaveLaws.{leaves_cell}
@@ -24,9 +25,9 @@ use Rattle.taking.specs.Takes.{PlainAhead, plain_words, plain_regs}
 use Rattle.taking.proofs.HandLaws.{Hand, with_goal, goal_hand}
 use Rattle.taking.proofs.TakeRuns.{cell_here}
 
-module _ (book : List ℕ) (A : Accepted book) (ws : List ℕ) (r : Regs) (left : ℕ) (x : Branch) (threads : List Thread) (h : 0 < left)
-    (H : Hand book ws (tops_of r) r.cell r.taken r.supposed x threads) (X : CellAt book ws r.made r.cells r.programs r.cell x.goals)
-    (p : Followed) (some : 0 < p.rules) (P : PlainAhead book r (cell_here book A.formed ws r left x threads h H X) left p) where
+module _ (book : List ℕ) (A : Accepted book) (ws : List ℕ) (r : Regs) (held : Held) (left : ℕ) (x : Branch) (threads : List Thread) (h : 0 < left)
+    (H : Hand book ws (tops_of r) held.cell held.taken held.supposed x threads) (X : CellAt book ws r.made r.cells r.programs held.cell x.goals)
+    (p : Followed) (some : 0 < p.rules) (P : PlainAhead book held (cell_here book A.formed ws r held left x threads h H X) left p) where
   made_now_lem : length x.store ≡ r.made
   made_now_lem = store_made H.sound H.branch
 
@@ -40,7 +41,7 @@ module _ (book : List ℕ) (A : Accepted book) (ws : List ℕ) (r : Regs) (left 
   abbrev behind : Branch
   behind = record { goals = X.gs; store = x.store; taken = x.taken + p.rules; supposed = x.supposed }
 
-  rest : Hand book ws (tops_of r) X.q (r.taken + p.rules) r.supposed behind threads
+  rest : Hand book ws (tops_of r) X.q (held.taken + p.rules) held.supposed behind threads
   rest =
       let B = H.branch in
       record {
@@ -66,13 +67,13 @@ module _ (book : List ℕ) (A : Accepted book) (ws : List ℕ) (r : Regs) (left 
   goal_is : todo (goal_of book p.goal) (length x.store) (own_program book) ≡ todo (goal_of book p.goal) r.made X.program
   goal_is = rw (made_now_lem, program_own) refl
 
-  pub plain_steps : (ws' : List ℕ) → ws' ≡ plain_words r (cell_here book A.formed ws r left x threads h H X) p ws → StepGives book ws ws' r left (solving x ∷ threads) (Onward (2 * p.rules) (plain_regs r p))
+  pub plain_steps : (ws' : List ℕ) → ws' ≡ plain_words r (cell_here book A.formed ws r held left x threads h H X) p ws → StepGives book ws ws' r left (solving x ∷ threads) (Onward (2 * p.rules) (plain_regs r held p))
   unfolding plain_words plain_regs
   plain_steps ws' e =
       let few = H.branch.cells_few in
       let z : 2 * p.rules + (left - 2 * p.rules) ≡ left = omega (arith, P.units) in
       let G = chain_goal A r.made P.chain some in
       let K = goal_hand rest p.goal r.made X.p X.program G (omega (arith, H.sound.slots.room)) X.program_is X.program_below (omega (arith, X.falls, X.below)) (omega arith) P.goals in
-      rw e (steps_on {r' = plain_regs r p} {used = 2 * p.rules} P.units (omega arith) (leaves_cell r.cells _ X.p X.q ws (omega (arith, few, P.goals)))
+      rw e (steps_on {r' = plain_regs r held p} {used = 2 * p.rules} P.units (omega arith) (leaves_cell r.cells _ X.p X.q ws (omega (arith, few, P.goals)))
       (goal_in_hand refl K.sound K.branch K.waiting)
       (λ q y ls. ap (λ (k : ℕ). run_on q k y ls (solving x ∷ threads)) (sym z) ∙ runs q (left - 2 * p.rules) y ls threads ∙ ap (λ (t : Todo). run_on q (left - 2 * p.rules) (spent_units (2 * p.rules) y) ls (solving (with_goal t behind) ∷ threads)) goal_is))

@@ -1,7 +1,7 @@
 -- The step that takes a goal: what the registers stand for makes it safe, and each kind of goal gives a step of the run.
 use mathlib.Core.Path.{◌≡◌, refl, sym, ◌∙◌, ap}
 use mathlib.Core.Logic.{◌≢◌}
-use mathlib.Core.Bool.{true, false}
+use mathlib.Core.Bool.{true}
 use mathlib.Core.List.{List, ◌∷◌}
 use Prim.Native.Nat.{ℕ, ◌+◌, ◌-◌, ◌*◌, ◌/◌, ◌%◌, ◌≤◌, ◌<◌}
 use native.Mathlib.Omega.{arith}
@@ -20,8 +20,11 @@ use Rattle.words.proofs.PackLaws.{rec_pack, base_pack, pack_large}
 use Rattle.words.proofs.ReadLaws.{in_book}
 use Rattle.seeking.specs.Seeking.{Standing}
 use Rattle.seeking.specs.Memo.{MemoOnly}
+use Rattle.std.proofs.Common.{Some, None}
+use Rattle.branch.specs.State.{IsBranch}
 use Rattle.branch.proofs.TakeLaws.{CellAt, cell_at}
 use Rattle.following.specs.declared.Followed.{Followed}
+use Rattle.steps.specs.declared.Branch.{Branch as Held}
 use Rattle.steps.specs.declared.Regs.{Regs}
 use Rattle.steps.specs.Search.{tops_of, Stands, Stands.goal_in_hand, Stands.going_back}
 use Rattle.returning.specs.declared.Reached.{Reached}
@@ -82,40 +85,44 @@ module _ (book : List ℕ) (g : ℕ) where
       go no_kind e s = let z : ◌≡◌ {A = ℕ} 0 1 = cc in absurd (omega arith)
 
 -- WHAT THE REGISTERS STAND FOR: a branch whose first goal is in their cell
-pub record Facing (book ws : List ℕ) (r : Regs) (threads : List Thread) : Type 0 where
+pub record Facing (book ws : List ℕ) (r : Regs) (held : Held) (threads : List Thread) : Type 0 where
   pub branch : Branch
   pub waiting : List Thread
-  pub hand : Hand book ws (tops_of r) r.cell r.taken r.supposed branch waiting
-  pub cell : CellAt book ws r.made r.cells r.programs r.cell branch.goals
+  pub hand : Hand book ws (tops_of r) held.cell held.taken held.supposed branch waiting
+  pub cell : CellAt book ws r.made r.cells r.programs held.cell branch.goals
   pub is : threads ≡ solving branch ∷ waiting
 
-facing : {book ws : List ℕ} {r : Regs} {threads : List Thread} → r.solving ≡ true → 0 < r.cell → Stands book ws r threads → Facing book ws r threads
-facing s c (goal_in_hand {b = b} {threads = ts} e S B W) = record { branch = b; waiting = ts; hand = record { sound = S; branch = B; waiting = W }; cell = cell_at c B.goals; is = refl }
-facing s c (going_back e S W) = let z : true ≡ false = sym s ∙ e in let y : ◌≡◌ {A = ℕ} 0 1 = cc in absurd (omega arith)
+facing : {book ws : List ℕ} {r : Regs} {held : Held} {threads : List Thread} → r.branch ≡ Some held → 0 < held.cell → Stands book ws r threads → Facing book ws r held threads
+facing {book} {ws} {r} {held} s c (goal_in_hand {held = d} {b = b} {threads = ts} e S B W) =
+    let z : Some d ≡ Some held = sym e ∙ s in
+    let i : d ≡ held = cc in
+    let D : IsBranch book ws (tops_of r) held.cell held.taken held.supposed b = rw i at B in
+    record { branch = b; waiting = ts; hand = record { sound = S; branch = D; waiting = W }; cell = cell_at c D.goals; is = refl }
+facing {held = held} s c (going_back e S W) = let z : Some held ≡ None = sym s ∙ e in let y : ◌≡◌ {A = ℕ} 0 1 = cc in absurd (omega arith)
 
-module _ (book : List ℕ) (ws : List ℕ) (r : Regs) (threads : List Thread) (T : Facing book ws r threads) where
+module _ (book : List ℕ) (ws : List ℕ) (r : Regs) (held : Held) (threads : List Thread) (T : Facing book ws r held threads) where
   abbrev cell_here_lem : Cell
   cell_here_lem = record { word = term_word T.cell.g T.cell.b; goal = T.cell.g; base = T.cell.b; program = T.cell.p; next = T.cell.q }
 
-  cell_below : r.cell < 1026
+  cell_below : held.cell < 1026
   cell_below = omega (arith, T.cell.below, T.hand.sound.cells_most)
 
-  cell_ready : (r.cell < 1026) × (4096 ≤ get_or ws (6144 + 2 * r.cell) 0)
+  cell_ready : (held.cell < 1026) × (4096 ≤ get_or ws (6144 + 2 * held.cell) 0)
   cell_ready = (cell_below, rw T.cell.word (pack_large T.cell.g T.cell.b))
 
   -- the code reads the cell
-  cell_read : cell_of ws r.cell ≡ cell_here_lem
+  cell_read : cell_of ws held.cell ≡ cell_here_lem
   unfolding cell_of rec_of base_of
   cell_read =
       let X = T.cell in
       let next_small : X.q < 4096 = omega (arith, X.falls, cell_below) in
-      let a : get_or ws (6144 + 2 * r.cell) 0 / 4096 - 1 ≡ X.g = rw X.word (rec_pack X.g X.b X.base) in
-      let b : get_or ws (6144 + 2 * r.cell) 0 % 4096 ≡ X.b = rw X.word (base_pack X.g X.b X.base) in
-      let c : get_or ws (6144 + 2 * r.cell + 1) 0 / 4096 ≡ X.p = rw X.link (omega arith) in
-      let d : get_or ws (6144 + 2 * r.cell + 1) 0 % 4096 ≡ X.q = rw X.link (omega arith) in
+      let a : get_or ws (6144 + 2 * held.cell) 0 / 4096 - 1 ≡ X.g = rw X.word (rec_pack X.g X.b X.base) in
+      let b : get_or ws (6144 + 2 * held.cell) 0 % 4096 ≡ X.b = rw X.word (base_pack X.g X.b X.base) in
+      let c : get_or ws (6144 + 2 * held.cell + 1) 0 / 4096 ≡ X.p = rw X.link (omega arith) in
+      let d : get_or ws (6144 + 2 * held.cell + 1) 0 % 4096 ≡ X.q = rw X.link (omega arith) in
       rw (cell_of, a, b, c, d, X.word) refl
 
-  room_here : Readable book → r.taken < 512 → Room ws r cell_here_lem
+  room_here : Readable book → held.taken < 512 → Room ws r held cell_here_lem
   room_here R l =
       let X = T.cell in
       let S = T.hand.sound in
@@ -125,73 +132,73 @@ module _ (book : List ℕ) (ws : List ℕ) (r : Regs) (threads : List Thread) (T
       )
 
 -- THE STEP: it is safe when somebody stands for the registers
-module _ (book ws : List ℕ) (r : Regs) (s : r.solving ≡ true) (c : 0 < r.cell) (some : (threads : List Thread) × Stands book ws r threads) where
-  abbrev face_some : Facing book ws r some.0
+module _ (book ws : List ℕ) (r : Regs) (held : Held) (s : r.branch ≡ Some held) (c : 0 < held.cell) (some : (threads : List Thread) × Stands book ws r threads) where
+  abbrev face_some : Facing book ws r held some.0
   face_some = facing s c some.1
 
-  pub read_ready : (r.cell < 1026) × (4096 ≤ get_or ws (6144 + 2 * r.cell) 0)
-  read_ready = cell_ready book ws r some.0 face_some
+  pub read_ready : (held.cell < 1026) × (4096 ≤ get_or ws (6144 + 2 * held.cell) 0)
+  read_ready = cell_ready book ws r held some.0 face_some
 
-  module _ (x : Cell) (xe : x ≡ cell_of ws r.cell) where
+  module _ (x : Cell) (xe : x ≡ cell_of ws held.cell) where
     pub goal_inside : x.goal < records book
-    goal_inside = rw (xe, cell_read book ws r some.0 face_some) face_some.cell.here.inside
+    goal_inside = rw (xe, cell_read book ws r held some.0 face_some) face_some.cell.here.inside
 
     pub goal_atom : (kind : ℕ) → kind ≡ field book x.goal 0 → kind < 5 → HasArguments book x.goal
     goal_atom kind e k =
-        let g : is_goal (kind_at book x.goal) ≡ true = rw (xe, cell_read book ws r some.0 face_some) face_some.cell.here.kind in
+        let g : is_goal (kind_at book x.goal) ≡ true = rw (xe, cell_read book ws r held some.0 face_some) face_some.cell.here.kind in
         has_atom book x.goal goal_inside (atom_kind_lem book x.goal g (rw e at k))
 
-    pub take_room : Readable book → r.taken < 512 → Room ws r x
-    take_room R l = rw (xe, cell_read book ws r some.0 face_some) (room_here book ws r some.0 face_some R l)
+    pub take_room : Readable book → held.taken < 512 → Room ws r held x
+    take_room R l = rw (xe, cell_read book ws r held some.0 face_some) (room_here book ws r held some.0 face_some R l)
 
     pub take_standing : Standing book ws r.made r.programs x.program 0
-    take_standing = rw (xe, cell_read book ws r some.0 face_some) (face_some.cell.program, face_some.cell.program_is)
+    take_standing = rw (xe, cell_read book ws r held some.0 face_some) (face_some.cell.program, face_some.cell.program_is)
 
 -- and whatever threads they stand for, it is the machine's unit
-module _ (book : List ℕ) (F : Formed book) (ws : List ℕ) (r : Regs) (left : ℕ) (s : r.solving ≡ true) (c : 0 < r.cell) (h : 0 < left) where
-  pub stops : 512 ≤ r.taken → ReachContract book ws ws r left (Finished (Stopped Goals) 0)
-  stops l threads Z = let T = facing s c Z in rw T.is (reach_end (goals_stop book F ws r left T.branch T.waiting h T.hand T.cell l))
+module _ (book : List ℕ) (F : Formed book) (ws : List ℕ) (r : Regs) (held : Held) (left : ℕ) (s : r.branch ≡ Some held) (c : 0 < held.cell) (h : 0 < left) where
+  pub stops : 512 ≤ held.taken → ReachContract book ws ws r left (Finished (Stopped Goals) 0)
+  stops l threads Z = let T = facing s c Z in rw T.is (reach_end (goals_stop book F ws r held left T.branch T.waiting h T.hand T.cell l))
 
-  module _ (x : Cell) (xe : x ≡ cell_of ws r.cell) (l : r.taken < 512) (kind : ℕ) (ke : kind ≡ field book x.goal 0) where
+  module _ (x : Cell) (xe : x ≡ cell_of ws held.cell) (l : held.taken < 512) (kind : ℕ) (ke : kind ≡ field book x.goal 0) where
     module _ (threads : List Thread) (Z : Stands book ws r threads) where
-      abbrev face : Facing book ws r threads
+      abbrev face : Facing book ws r held threads
       face = facing s c Z
 
-      read_as : x ≡ cell_here_lem book ws r threads face
-      read_as = xe ∙ cell_read book ws r threads face
+      read_as : x ≡ cell_here_lem book ws r held threads face
+      read_as = xe ∙ cell_read book ws r held threads face
 
       kind_here : kind ≡ field book face.cell.g 0
       kind_here = ke ∙ ap (λ (z : Cell). field book z.goal 0) read_as
 
     -- the search for the first candidate writes in the memo only
-    pub takes_atom : kind < 5 → (o : Reached) → AtomTaken book ws r x o → (ws' : List ℕ) → MemoOnly ws ws' → ReachContract book ws ws' r left o
+    pub takes_atom : kind < 5 → (o : Reached) → AtomTaken book ws r held x o → (ws' : List ℕ) → MemoOnly ws ws' → ReachContract book ws ws' r left o
     takes_atom k o A ws' O threads Z =
         let T = face threads Z in
-        rw T.is (reach_only O (atom_steps book F ws r left T.branch T.waiting h T.hand T.cell l (atom_kind_lem book T.cell.g T.cell.here.kind (rw (kind_here threads Z) at k)) o (rw (read_as threads Z) at A)))
+        rw T.is (reach_only O (atom_steps book F ws r held left T.branch T.waiting h T.hand T.cell l (atom_kind_lem book T.cell.g T.cell.here.kind (rw (kind_here threads Z) at k)) o (rw (read_as threads Z) at A)))
 
     module _ (ws' : List ℕ) (y : Regs) where
-      pub takes_and : kind ≡ 5 → ws' ≡ and_words book r x ws → y ≡ and_regs r → ReachContract book ws ws' r left (Onward 1 y)
+      pub takes_and : kind ≡ 5 → ws' ≡ and_words book r x ws → y ≡ and_regs r held → ReachContract book ws ws' r left (Onward 1 y)
       takes_and k e d threads Z =
           let T = face threads Z in
-          rw (T.is, d) (reach_on (and_steps book F ws r left T.branch T.waiting h T.hand T.cell l ws' (and_kind_lem book T.cell.g (sym (kind_here threads Z) ∙ k)) (rw (read_as threads Z) at e)))
+          rw (T.is, d) (reach_on (and_steps book F ws r held left T.branch T.waiting h T.hand T.cell l ws' (and_kind_lem book T.cell.g (sym (kind_here threads Z) ∙ k)) (rw (read_as threads Z) at e)))
 
-      pub takes_or : kind ≡ 6 → ws' ≡ or_words book r x ws → y ≡ or_regs r → ReachContract book ws ws' r left (Onward 1 y)
+      pub takes_or : kind ≡ 6 → ws' ≡ or_words book r held x ws → y ≡ or_regs r held → ReachContract book ws ws' r left (Onward 1 y)
       takes_or k e d threads Z =
           let T = face threads Z in
-          rw (T.is, d) (reach_on (or_steps book F ws r left T.branch T.waiting h T.hand T.cell l ws' (or_kind_lem book T.cell.g (sym (kind_here threads Z) ∙ k)) (rw (read_as threads Z) at e)))
+          rw (T.is, d) (reach_on (or_steps book F ws r held left T.branch T.waiting h T.hand T.cell l ws' (or_kind_lem book T.cell.g (sym (kind_here threads Z) ∙ k)) (rw (read_as threads Z) at e)))
 
-      pub takes_suppose : 5 ≤ kind → kind ≢ 5 → kind ≢ 6 → ws' ≡ suppose_words book r x left ws → y ≡ suppose_regs r → ReachContract book ws ws' r left (Onward 1 y)
+      pub takes_suppose : 5 ≤ kind → kind ≢ 5 → kind ≢ 6 → ws' ≡ suppose_words book r x left ws → y ≡ suppose_regs r held → ReachContract book ws ws' r left (Onward 1 y)
       takes_suppose a b c e d threads Z =
           let T = face threads Z in
           let z = kind_here threads Z in
           let k = suppose_kind_lem book T.cell.g T.cell.here.kind (rw z at a) (λ q. b (z ∙ q)) (λ q. c (z ∙ q)) in
-          rw (T.is, d) (reach_on (suppose_steps book F ws r left T.branch T.waiting h T.hand T.cell l ws' k (rw (read_as threads Z) at e)))
+          rw (T.is, d) (reach_on (suppose_steps book F ws r held left T.branch T.waiting h T.hand T.cell l ws' k (rw (read_as threads Z) at e)))
 
 -- the goals of plain rules
-module _ (book : List ℕ) (A : Accepted book) (ws : List ℕ) (r : Regs) (left : ℕ) (s : r.solving ≡ true) (c : 0 < r.cell) (h : 0 < left) (x : Cell) (xe : x ≡ cell_of ws r.cell)
-    (p : Followed) (some : 0 < p.rules) (P : PlainAhead book r x left p) where
-  pub takes_plain : (ws' : List ℕ) (y : Regs) → ws' ≡ plain_words r x p ws → y ≡ plain_regs r p → ReachContract book ws ws' r left (Onward (2 * p.rules) y)
+module _ (book : List ℕ) (A : Accepted book) (ws : List ℕ) (r : Regs) (held : Held) (left : ℕ) (s : r.branch ≡ Some held) (c : 0 < held.cell) (h : 0 < left) (x : Cell) (xe : x ≡ cell_of ws held.cell)
+    (p : Followed) (some : 0 < p.rules) (P : PlainAhead book held x left p) where
+  pub takes_plain : (ws' : List ℕ) (y : Regs) → ws' ≡ plain_words r x p ws → y ≡ plain_regs r held p → ReachContract book ws ws' r left (Onward (2 * p.rules) y)
   takes_plain ws' y e d threads Z =
       let T = facing s c Z in
-      let z = xe ∙ cell_read book ws r threads T in
-      rw (T.is, d) (reach_on (plain_steps book A ws r left T.branch T.waiting h T.hand T.cell p some (rw z at P) ws' (rw z at e)))
+      let z = xe ∙ cell_read book ws r held threads T in
+      rw (T.is, d) (reach_on (plain_steps book A ws r held left T.branch T.waiting h T.hand T.cell p some (rw z at P) ws' (rw z at e)))

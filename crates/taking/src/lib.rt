@@ -1,7 +1,7 @@
 // Taking a goal: one unit of the run; or, where plain rules lead on from it, two units for each of them.
 #![tactic(auto)]
 
-ghost use Rattle.std.specs.Prelude.{◌≡◌, true, ℕ, ◌+◌, ◌-◌, ◌*◌, ◌≤◌, ◌<◌, length, get_or, List};
+ghost use Rattle.std.specs.Prelude.{◌≡◌, Some, ℕ, ◌+◌, ◌-◌, ◌*◌, ◌≤◌, ◌<◌, length, get_or, List};
 ghost use Rattle.words.specs.Readable.{HasArguments};
 ghost use Rattle.book.specs.Records.{records};
 ghost use Rattle.book.proofs.Accepted.{Accepted, Formed};
@@ -20,7 +20,7 @@ use index::Head;
 use machine::{Ending, Limit};
 use returning::Reached;
 use seeking::Place;
-use steps::Regs;
+use steps::{Branch, Regs};
 use words::{Book, Words};
 
 // A goal cell: the word of the goal and base in it, the goal's record and base, its program, and the next cell.
@@ -51,43 +51,44 @@ fn read_cell(ws: &Words, c: u32) -> Cell
 }
 
 // The registers with a branch in hand whose first goal is in `cell`, the newest.
-fn in_hand(r: Regs, cell: u32, programs: u32, alternatives: u32, supposed: bool) -> Regs
-    requires { (cell < 1026) × (r.taken < 512) }
-    ensures { result ≡ in_hand r cell programs alternatives supposed }
+fn in_hand(r: Regs, b: Branch, cell: u32, programs: u32, alternatives: u32) -> Regs
+    requires { (cell < 1026) × (b.taken < 512) }
+    ensures { result ≡ in_hand r b cell programs alternatives }
 {
     Regs {
         cells: cell + 1,
         programs,
         alternatives,
-        cell,
-        taken: r.taken + 1,
-        supposed,
-        solving: true,
+        branch: Some(Branch {
+            cell,
+            taken: b.taken + 1,
+            ..b
+        }),
         ..r
     }
 }
 
 // Takes an and goal: the right goal, then before it the left one.
-fn take_and(book: &Book, ws: &mut Words, r: Regs, x: Cell) -> Regs
+fn take_and(book: &Book, ws: &mut Words, r: Regs, b: Branch, x: Cell) -> Regs
     requires goal_bound { x.goal < records book.now.bytes.now }
-    requires room { Room ws.old r x }
+    requires room { Room ws.old r b x }
     ensures ws_after { ws.new ≡ and_words book.now.bytes.now r x ws.old }
-    ensures value { result ≡ and_regs r }
+    ensures value { result ≡ and_regs r b }
 {
     let left = book.field(x.goal, 1);
     let right = book.field(x.goal, 2);
     let cells = r.cells;
     branch::put_cell(ws, cells, 4096 * (right + 1) + x.base, x.program, x.next);
     branch::put_cell(ws, cells + 1, 4096 * (left + 1) + x.base, x.program, cells);
-    in_hand(r, cells + 1, r.programs, r.alternatives, r.supposed)
+    in_hand(r, b, cells + 1, r.programs, r.alternatives)
 }
 
 // Takes an or goal: the right goal is put and kept as an alternative, then the left one is put.
-fn take_or(book: &Book, ws: &mut Words, r: Regs, x: Cell) -> Regs
+fn take_or(book: &Book, ws: &mut Words, r: Regs, b: Branch, x: Cell) -> Regs
     requires goal_bound { x.goal < records book.now.bytes.now }
-    requires room { Room ws.old r x }
-    ensures ws_after { ws.new ≡ or_words book.now.bytes.now r x ws.old }
-    ensures value { result ≡ or_regs r }
+    requires room { Room ws.old r b x }
+    ensures ws_after { ws.new ≡ or_words book.now.bytes.now r b x ws.old }
+    ensures value { result ≡ or_regs r b }
 {
     let left = book.field(x.goal, 1);
     let right = book.field(x.goal, 2);
@@ -98,8 +99,8 @@ fn take_or(book: &Book, ws: &mut Words, r: Regs, x: Cell) -> Regs
         cells: cells + 1,
         programs: r.programs,
         cell: cells,
-        taken: r.taken + 1,
-        supposed: u32::from(r.supposed),
+        taken: b.taken + 1,
+        supposed: u32::from(b.supposed),
         atom: 0,
         call: 0,
         node: 0,
@@ -108,7 +109,7 @@ fn take_or(book: &Book, ws: &mut Words, r: Regs, x: Cell) -> Regs
     branch::put_cell(ws, cells, 4096 * (right + 1) + x.base, x.program, x.next);
     branch::keep(ws, r.alternatives, kept);
     branch::put_cell(ws, cells + 1, 4096 * (left + 1) + x.base, x.program, x.next);
-    in_hand(r, cells + 1, r.programs, r.alternatives + 1, r.supposed)
+    in_hand(r, b, cells + 1, r.programs, r.alternatives + 1)
 }
 
 // Writes program p: a suppose goal's word, the program before which its clauses are put, and the mark by which the memo knows it.
@@ -124,24 +125,28 @@ fn put_program(ws: &mut Words, p: u32, w: u32, q: u32, mark: u32)
 
 // Takes a suppose goal: its clauses are put before the program, and its goal has the new program.
 // The program's mark is the units that are left: putting a program takes a unit, so no two programs of a run have the same mark.
-fn take_suppose(book: &Book, ws: &mut Words, r: Regs, x: Cell, left: u32) -> Regs
+fn take_suppose(book: &Book, ws: &mut Words, r: Regs, b: Branch, x: Cell, left: u32) -> Regs
     requires goal_bound { x.goal < records book.now.bytes.now }
-    requires room { Room ws.old r x }
+    requires room { Room ws.old r b x }
     ensures ws_after { ws.new ≡ suppose_words book.now.bytes.now r x left ws.old }
-    ensures value { result ≡ suppose_regs r }
+    ensures value { result ≡ suppose_regs r b }
 {
     let goal = book.field(x.goal, 3);
     let cells = r.cells;
     let program = r.programs;
     put_program(ws, program, 4096 * (x.goal + 1) + x.base, x.program, left);
     branch::put_cell(ws, cells, 4096 * (goal + 1) + x.base, program, x.next);
-    in_hand(r, cells, program + 1, r.alternatives, true)
+    let supposing = Branch {
+        supposed: true,
+        ..b
+    };
+    in_hand(r, supposing, cells, program + 1, r.alternatives)
 }
 
 // The numbers for the atom of cell x with the candidate at this place.
-fn at_place(r: Regs, x: Cell, place: Place) -> Back
-    requires { r.taken < 512 }
-    ensures { result ≡ atom_kept r x place.program place.clause }
+fn at_place(r: Regs, b: Branch, x: Cell, place: Place) -> Back
+    requires { b.taken < 512 }
+    ensures { result ≡ atom_kept r b x place.program place.clause }
 {
     Back {
         made: r.made,
@@ -149,8 +154,8 @@ fn at_place(r: Regs, x: Cell, place: Place) -> Back
         cells: r.cells,
         programs: r.programs,
         cell: x.next,
-        taken: r.taken + 1,
-        supposed: u32::from(r.supposed),
+        taken: b.taken + 1,
+        supposed: u32::from(b.supposed),
         atom: x.word,
         call: x.program,
         node: place.program,
@@ -167,11 +172,11 @@ fn most_rules(taken: u32, left: u32) -> u32
 }
 
 // Follows plain rules from the goal of cell x, if its program is the question's own.
-fn plain_ahead(book: &Book, ws: &Words, r: Regs, x: Cell, left: u32) -> Followed
+fn plain_ahead(book: &Book, ws: &Words, b: Branch, x: Cell, left: u32) -> Followed
     requires formed { Formed book.now.bytes.now × OwnReady book.now.bytes.now 0 × AllIndexed book.now.bytes.now ws.now }
     requires goal_bound { x.goal < records book.now.bytes.now }
-    requires room { Room ws.now r x }
-    ensures { 0 < result.rules → PlainAhead book.now.bytes.now r x left result }
+    requires few { b.taken < 512 }
+    ensures { 0 < result.rules → PlainAhead book.now.bytes.now b x left result }
 {
     if 0 < x.program {
         return Followed {
@@ -179,71 +184,73 @@ fn plain_ahead(book: &Book, ws: &Words, r: Regs, x: Cell, left: u32) -> Followed
             rules: 0,
         };
     }
-    following::follow(book, ws, x.goal, most_rules(r.taken, left))
+    following::follow(book, ws, x.goal, most_rules(b.taken, left))
 }
 
 // Takes the goals of plain rules: the goal to which they lead is put in the place of the goal of cell x.
-fn take_plain(ws: &mut Words, r: Regs, x: Cell, p: Followed) -> Regs
-    requires goal_bound { (p.goal < 4096) × (r.taken + p.rules ≤ 512) }
-    requires room { Room ws.old r x }
+fn take_plain(ws: &mut Words, r: Regs, b: Branch, x: Cell, p: Followed) -> Regs
+    requires goal_bound { (p.goal < 4096) × (b.taken + p.rules ≤ 512) }
+    requires room { Room ws.old r b x }
     ensures ws_after { ws.new ≡ plain_words r x p ws.old }
-    ensures value { result ≡ plain_regs r p }
+    ensures value { result ≡ plain_regs r b p }
 {
     let cell = r.cells;
     branch::put_cell(ws, cell, 4096 * (p.goal + 1) + r.made, x.program, x.next);
     Regs {
         cells: cell + 1,
-        cell,
-        taken: r.taken + p.rules,
-        solving: true,
+        branch: Some(Branch {
+            cell,
+            taken: b.taken + p.rules,
+            ..b
+        }),
         ..r
     }
 }
 
 // Takes an atom: its first candidate is tried next; with none, go back.
-fn take_atom(book: &Book, ws: &mut Words, r: Regs, x: Cell) -> Reached
+fn take_atom(book: &Book, ws: &mut Words, r: Regs, b: Branch, x: Cell) -> Reached
     requires formed { Formed book.now.bytes.now × OwnReady book.now.bytes.now 0 × AllIndexed book.now.bytes.now ws.old }
     requires standing { Standing book.now.bytes.now ws.old r.made r.programs x.program 0 }
     requires has_arguments { HasArguments book.now.bytes.now x.goal }
-    requires room { Room ws.old r x }
+    requires room { Room ws.old r b x }
     requires by_index { (left : ℕ) × Memo book.now.bytes.now ws.old r.programs left }
-    ensures atom_taken { AtomTaken book.now.bytes.now ws.old r x result }
+    ensures atom_taken { AtomTaken book.now.bytes.now ws.old r b x result }
     ensures memo_stays { MemoStays book.now.bytes.now r.programs ws.old ws.new }
 {
     let head = Head::read(book, x.goal);
     match seeking::seek_first(book, r.made, ws, r.programs, x.program, head) {
-        Some(place) => Reached::Clause(1, at_place(r, x, place), r.alternatives),
+        Some(place) => Reached::Clause(1, at_place(r, b, x, place), r.alternatives),
         None => Reached::Onward(1, steps::to_back(r)),
     }
 }
 
 // Takes the first goal of the branch in hand.
-pub fn take(book: &Book, ws: &mut Words, r: Regs, left: u32) -> Reached
+pub fn take(book: &Book, ws: &mut Words, r: Regs, b: Branch, left: u32) -> Reached
     requires accepted { Accepted book.now.bytes.now × OwnReady book.now.bytes.now 0 × AllIndexed book.now.bytes.now ws.old }
-    requires solving_value { (r.solving ≡ true) × (0 < r.cell) × (0 < left) }
+    requires solving_value { (r.branch ≡ Some b) × (0 < b.cell) × (0 < left) }
     requires stands { (threads : List Thread) × Stands book.now.bytes.now ws.old r threads }
     requires memo { Memo book.now.bytes.now ws.old r.programs left }
     ensures reach_contract { ReachContract book.now.bytes.now ws.old ws.new r left result }
     ensures memo_reached { MemoReached book.now.bytes.now ws.new left result }
 {
-    if 512 <= r.taken {
+    if 512 <= b.taken {
         return Reached::Finished(Ending::Stopped(Limit::Goals), 0);
     }
-    let x = read_cell(ws, r.cell);
+    let x = read_cell(ws, b.cell);
     let kind = book.field(x.goal, 0);
     // Below an and-goal's kind a goal is an atom. With a match, or `==`, the compiler makes one switch of all kinds, and asks for an atom last.
     if kind < Kind::And as u32 {
-        let p = plain_ahead(book, ws, r, x, left);
+        let p = plain_ahead(book, ws, b, x, left);
         if 0 < p.rules {
-            return Reached::Onward(2 * p.rules, take_plain(ws, r, x, p));
+            return Reached::Onward(2 * p.rules, take_plain(ws, r, b, x, p));
         }
-        return take_atom(book, ws, r, x);
+        return take_atom(book, ws, r, b, x);
     }
     if kind == Kind::And as u32 {
-        return Reached::Onward(1, take_and(book, ws, r, x));
+        return Reached::Onward(1, take_and(book, ws, r, b, x));
     }
     if kind == Kind::Or as u32 {
-        return Reached::Onward(1, take_or(book, ws, r, x));
+        return Reached::Onward(1, take_or(book, ws, r, b, x));
     }
-    Reached::Onward(1, take_suppose(book, ws, r, x, left))
+    Reached::Onward(1, take_suppose(book, ws, r, b, x, left))
 }

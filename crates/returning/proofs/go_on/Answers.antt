@@ -1,10 +1,10 @@
 use mathlib.Core.Path.{refl}
 use Prim.Native.Nat.{◌<◌}
 use native.Mathlib.Omega.{arith}
+use Rattle.std.proofs.Common.{None}
 use Rattle.returning.proofs.BackNeeds.{on_on, on_end, on_clause, clause_asked, memo_on, memo_asked}
 use Rattle.returning.proofs.MemoFrames.{memo_ended, memo_later}
 use Rattle.steps.proofs.RunLaws.{units_most}
-use mathlib.Core.Bool.{false}
 use Rattle.returning.specs.Reentry.{regs_kept}
 use borrow.Author.Rules.{rules}
 use Rattle.returning.proofs.go_on.Goals as goal
@@ -22,7 +22,7 @@ pub overflow_sub-left : goal.overflow_sub-left
 overflow_sub-left c = (clause_asked _ _ _ _ c.requires.can_go_on c.in-Clause.is).0
 
 pub later-requires : goal.later-requires
-later-requires c = let p = c.requires in let s = clause_asked _ _ _ _ p.can_go_on c.in-Clause.is in let h : c.args.left < 4294967296 = search rules in let u = units_most ((rw c.in-Some.ensures.cases.same at c.try_all-s.ensures.tries) (regs_kept c.in-Clause.x 0 false) s.2.0 refl s.2.1) in omega (arith, u, s.0, h)
+later-requires c = let p = c.requires in let s = clause_asked _ _ _ _ p.can_go_on c.in-Clause.is in let h : c.args.left < 4294967296 = search rules in let u = units_most ((rw c.in-Some.ensures.cases.same at c.try_all-s.ensures.tries) (regs_kept c.in-Clause.x 0 None) s.2.0 refl s.2.1) in omega (arith, u, s.0, h)
 
 pub returns-in-Onward : goal.returns-in-Onward
 returns-in-Onward c = record { goes_on = on_on _ _ _ c.in-Onward.is refl; memo_stepped = memo_on _ _ _ _ _ _ c.in-Onward.is c.requires.memo_reached }

@@ -1,5 +1,5 @@
 use native.Mathlib.Omega.{arith}
-use mathlib.Core.Bool.{false}
+use Rattle.std.proofs.Common.{None}
 use Rattle.returning.specs.Reentry.{regs_kept}
 use mathlib.Core.Path.{refl}
 use Rattle.returning.proofs.PassLaws.{pass_some, pass_memo, pass_budget, pass_next, pass_through, through_memo}
@@ -16,7 +16,7 @@ try_next-requires c = let p = c.requires in let s = pass_some _ c.args.book.now.
 pub later-requires : goal.later-requires
 later-requires c = let p = c.requires in
     let s = pass_some _ c.args.book.now.readable p.accepted.0 _ _ _ _ _ _ c.pass_over.ensures.pass_gives c.pass_over.ensures.memo_stays _ _ _ c.in-Next.is p.to_clause in
-    let u = units_most (c.try_next.ensures.tries (regs_kept c.in-Next.y 0 false) s.1.0 refl s.1.1) in
+    let u = units_most (c.try_next.ensures.tries (regs_kept c.in-Next.y 0 None) s.1.0 refl s.1.1) in
     omega (arith, u, s.0, c.ranges.left.fits)
 
 pub returns-in-Through : goal.returns-in-Through

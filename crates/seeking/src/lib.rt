@@ -110,6 +110,7 @@ fn seek_put(book: &Book, made: u32, ws: &Words, top: u32, half: Half, p: u32, he
     ensures { (result < 131071) × Finds book.now.bytes.now ws.now p head.symbol head.count result }
 {
     let mut q = p;
+    // Along the programs' links: nothing is counted.
     while 0 < q {
         let at = (8200 + 3 * q) as usize;
         let s = ws[at] / 4096 - 1;

@@ -65,7 +65,7 @@ fn head_rest(head: Head) -> u32
 }
 
 // Forgets what the memo has in its first n words, whole entries. An answer's variables are numbered in words that the memo uses while the run searches, and must find zeros there.
-// A call of its own: within the run's loop the compiler works out at every turn, answer or not, how often this one goes round.
+// A call of its own, as `write_answer` is: within the run's loop the compiler works out at every turn how often theirs go round, 18 instructions.
 #[inline(never)]
 pub fn forget(ws: &mut Words, n: u32)
     requires { n ≤ 2048 }

@@ -8,7 +8,7 @@ ghost use Rattle.index.specs.Index.{head_bucket, last_match, link_or, Listed, In
 
 use words::{Book, Words};
 
-// A head: its symbol, and how many arguments it has.
+// A head: its symbol, and how many arguments it has; that these are at most 8 is asked for where it matters, here it would ask more of callers.
 #[derive(Clone, Copy, Debug, PartialEq, Eq)]
 pub struct Head {
     pub symbol: u16,
@@ -30,6 +30,7 @@ impl Head {
 }
 
 // A run of clauses: its first link, and how many links it has.
+// No bound is part of it: the question's run has up to 1,024 links, a supposed one 64 below record 4,096, and one bound would ask more of some caller.
 #[derive(Clone, Copy, Debug, PartialEq, Eq)]
 pub struct Run {
     pub first: u32,
@@ -80,6 +81,7 @@ fn head_node(book: &Book, ws: &Words, run: Run, head: Head) -> Option<u32>
     ensures { (i : ℕ) → i ≤ run.count → Listed book.now.bytes.now run.first run.count i ws.now → result ≡ found_below run.count (last_match book.now.bytes.now head.symbol head.count run.first run.count i) }
 {
     let mut z = ws[(4096 + head_bucket(head)) as usize] % 2048;
+    // Along the list's links: nothing is counted.
     while z < run.count {
         let c = book.field(run.first + z, 1);
         if head_matches(book, c, head) {

@@ -87,7 +87,6 @@ fn renew(book: &Book, ws: &mut Words, k: u32, x: Back, next: Option<Place>) -> u
 }
 
 // Puts the body of clause c, if it has one, at the front of the list, with the program of the call.
-// The flag and the body are two numbers of the clause's record, read here alone: an `Option` of them would be taken apart at once.
 fn put_body(book: &Book, ws: &mut Words, c: u32, x: Back) -> Front
     requires c_bound { (c < records book.now.bytes.now) × (x.made < 4096) × (x.cells < 1026) × (x.call < 4096) × (x.cell < 4096) }
     ensures ws_after { ws.new ≡ body_words book.now.bytes.now c x ws.old }
@@ -233,6 +232,7 @@ fn pass_over(book: &Book, ws: &mut Words, k: u32, x: Back, left: u32) -> Passed
     let first = first_term(book, ws, k, x);
     let mut y = x;
     let mut used: u32 = 0;
+    // From candidate to candidate: they are not counted, their units are.
     loop {
         let next = after_next(book, ws, k, y);
         if !passes(book, ws, k, y, first) {

@@ -189,6 +189,7 @@ pub fn run(
     let mut r = start;
     let mut y = tally;
     let mut end: usize = 0;
+    // Until a turn is the last one.
     loop {
         match turn(book, ws, out, r, y, end, asked) {
             Turned::Over(ending, tally) => return Ran { ending, tally },

@@ -127,6 +127,7 @@ fn supposed_along(book: &Book, ws: &Words, run: Run, j: u32, head: Head) -> Opti
     ensures { result ≡ found_below run.count (next_match book.now.bytes.now head.symbol head.count run.first j (run.count - j)) }
 {
     let mut i = j;
+    // Along the bucket's notes: nothing is counted.
     while i < run.count {
         let c = book.field(run.first + i, 1);
         if index::head_matches(book, c, head) {

@@ -238,7 +238,7 @@ pub fn take(book: &Book, ws: &mut Words, r: Regs, b: Branch, left: u32) -> Reach
     }
     let x = read_cell(ws, b.cell);
     let kind = book.field(x.goal, 0);
-    // Below an and-goal's kind a goal is an atom. With a match, or `==`, the compiler makes one switch of all kinds, and asks for an atom last.
+    // Asked with `<`, first: below an and-goal's kind a goal is an atom. With a match, or `kind == Kind::Atom`, the compiler makes one switch of all kinds, and asks for an atom last.
     if kind < Kind::And as u32 {
         let p = plain_ahead(book, ws, b, x, left);
         if 0 < p.rules {

@@ -1,14 +1,10 @@
 -- "Fields not listed are 0", field by field.
-use mathlib.Core.Path.{◌≡◌, refl, ap}
+use mathlib.Core.Path.{◌≡◌, refl}
 use mathlib.Core.Bool.{Bool, true, false, ◌&&◌}
 use mathlib.Core.List.{List}
 use Prim.Native.Nat.{ℕ, zero, suc, ◌+◌, ◌-◌, ◌≤◌, ◌<◌}
 use native.Mathlib.Omega.{arith}
 use lib.Dec.{eqb}
-use lib.ListN.{length, drop}
-use Rattle.std.specs.List.{list_all}
-use Rattle.std.proofs.Math.Seq.{drop-cons}
-use Rattle.std.proofs.lemmas.List.{drop_all}
 use Rattle.book.specs.Records.{at}
 use Rattle.book.specs.Fields.{zeros, zero_from}
 use Rattle.book.proofs.Tests.{and_true, eqb_says, Tested, equal, other, tested}
@@ -32,12 +28,3 @@ zero_at k j r e a b = go (8 - k) k e a (omega arith)
 pub zero_next : (k : ℕ) (r : List ℕ) → k < 8 → zero_from k r ≡ eqb (at r k) 0 && zero_from (suc k) r
 unfolding zero_from zeros
 zero_next k r h = let e : 8 - k ≡ suc (8 - suc k) = omega arith in rw e refl
-
--- for a test of all the numbers from k on
-pub zero_all : (k : ℕ) (r : List ℕ) → length r ≡ 8 → list_all (λ x. eqb x 0) (drop k r) ≡ zero_from k r
-unfolding zero_from zeros
-zero_all k r h = go (8 - k) k (omega arith) (omega arith)
-  where
-    go : (n k : ℕ) → 8 ≤ k + n → n ≤ 8 - k → list_all (λ x. eqb x 0) (drop k r) ≡ zeros k n r
-    go zero k a b = let e : length r ≤ k = omega arith in rw (drop_all k r e)
-    go (suc n) k a b = let e : k < length r = omega arith in rw (drop-cons r k 0 e) (ap (λ t. eqb (at r k) 0 && t) (go n (suc k) (omega arith) (omega arith)))

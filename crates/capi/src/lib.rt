@@ -2,20 +2,10 @@
 #![tactic(auto)]
 
 ghost use Rattle.std.specs.Prelude.{◌≡◌};
-ghost use Rattle.book.specs.Refusals.{test_number};
 ghost use Rattle.machine.specs.Call.{call};
 ghost use Rattle.capi.specs.Six.{reply_six};
 
-use book::Test;
 use machine::Reply;
-
-// Document 01's number of a test.
-#[tactic(auto, unfolding(book::specs::Refusals::test_number))]
-fn test_number(test: Test) -> u32
-    ensures { result ≡ test_number test }
-{
-    test as u32
-}
 
 fn six(x: Reply) -> [u32; 6]
     ensures { result ≡ reply_six x }
@@ -23,7 +13,7 @@ fn six(x: Reply) -> [u32; 6]
     let y = x.tally;
     match x.outcome {
         Err(refusal) => [
-            test_number(refusal.test),
+            u32::from(refusal.test),
             u32::from(refusal.failing),
             0,
             0,

@@ -1,6 +1,7 @@
 -- Any two results that a contract allows agree. The tests and the reads of the book that they make.
 use mathlib.Core.Path.{◌≡◌, sym, ◌∙◌}
 use Prim.Native.Nat.{ℕ}
+use Rattle.book.proofs.Refusal.of.Reads as book-refusal-of-reads
 use Rattle.fields.proofs.kind_fits.Reads as fields-kind-fits-reads
 use Rattle.fields.proofs.fields_fit.Reads as fields-fields-fit-reads
 use Rattle.fields.proofs.zero_from.Reads as fields-zero-from-reads
@@ -23,6 +24,9 @@ use Rattle.targets.proofs.term_targets.Reads as targets-term-targets-reads
 use Rattle.targets.proofs.and_targets.Reads as targets-and-targets-reads
 use Rattle.targets.proofs.suppose_targets.Reads as targets-suppose-targets-reads
 use Rattle.targets.proofs.clause_targets.Reads as targets-clause-targets-reads
+
+pub book_Refusal_of : (κs : _) (a : _) (r r' : _) (s s' : _) → book-refusal-of-reads.Post κs a r s → book-refusal-of-reads.Post κs a r' s' → r ≡ r'
+book_Refusal_of κs a r r' s s' p q = p ∙ sym q
 
 pub fields_kind_fits : (κs : _) (a : _) (r r' : _) (s s' : _) → fields-kind-fits-reads.Post κs a r s → fields-kind-fits-reads.Post κs a r' s' → r ≡ r'
 fields_kind_fits κs a r r' s s' p q = p ∙ sym q

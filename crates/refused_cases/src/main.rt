@@ -64,7 +64,7 @@ fn words_fit(ws: &[u32], kept: bool) -> bool {
 fn agrees(v: Result<(), Refusal>, c: Case) -> bool {
     match v {
         Ok(()) => c.refusal.is_none() && c.record == 0,
-        Err(e) => c.refusal == Some(e.test as u32) && c.record == u32::from(e.failing),
+        Err(e) => c.refusal == Some(u32::from(e.test)) && c.record == u32::from(e.failing),
     }
 }
 

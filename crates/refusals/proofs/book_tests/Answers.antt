@@ -8,8 +8,8 @@ use Rattle.refusals.proofs.book_tests.Goals as goal
 
 pub returns-then-not-size_fits : goal.returns-then-not-size_fits
 returns-then-not-size_fits c =
-    let e = c.refuse.ensures ∙ size_refused c.args.book.now (sym c.size_fits.ensures ∙ c.if-not-size_fits.true) in
-    let f = refusing_is _ ∙ ap is_err c.refuse.ensures in
+    let e = c.of.ensures ∙ size_refused c.args.book.now (sym c.size_fits.ensures ∙ c.if-not-size_fits.true) in
+    let f = refusing_is _ ∙ ap is_err c.of.ensures in
     let z : c.fill.new.self ≡ replicate (length c.args.ws.now) 0 = search rules in
     (e, book_refused c.args.book.now c.args.ws.now _ _ e _ f refl z)
 

@@ -6,7 +6,7 @@ use Rattle.refusals.proofs.WordLaws.{room_refused, room_taken}
 use Rattle.refusals.proofs.tests.Goals as goal
 
 pub returns-then-not-room_fits : goal.returns-then-not-room_fits
-returns-then-not-room_fits c = let x = room_refused c.args.ws.now _ _ _ (sym c.room_fits.ensures ∙ c.if-not-room_fits.true) in (c.refuse.ensures ∙ x.0, x.1)
+returns-then-not-room_fits c = let x = room_refused c.args.ws.now _ _ _ (sym c.room_fits.ensures ∙ c.if-not-room_fits.true) in (c.of.ensures ∙ x.0, x.1)
 
 pub book_tests-requires : goal.book_tests-requires
 book_tests-requires c =

@@ -196,9 +196,6 @@ module _ (book : List ℕ) (F : Formed book) (O : OwnReady book 0) (start : ℕ)
 
 -- THE LOOP: the code's next goal
 module _ (book : List ℕ) where
-  pub loop_start : (g most : ℕ) → follow_on book g 0 (most - 0) ≡ follow_on book g 0 most
-  loop_start g most = let z : most - 0 ≡ most = omega arith in rw z refl
-
   module _ (g n most : ℕ) where
     pub loop_end : n ≤ most → most ≤ n → record { goal = g; rules = most } ≡ follow_on book g n (most - n)
     unfolding follow_on

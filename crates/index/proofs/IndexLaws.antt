@@ -127,9 +127,6 @@ module _ (book : List ℕ) (first n i f m z : ℕ) (ws : List ℕ) (l : length w
     moved_word : get_or ws (5120 + z) 0 - 2048 * (get_or ws (5120 + z) 0 / 2048 % 2048) + 2048 * i ≡ 4194304 * link + 2048 * i + n
     moved_word = omega (arith, found_word, (start_bounds book first n (i + 1) z (omega arith)).1, most)
 
-    pub moved_small : get_or ws (5120 + z) 0 - 2048 * (get_or ws (5120 + z) 0 / 2048 % 2048) + 2048 * i < 4294967296
-    moved_small = omega (arith, moved_word, link_small n z (next_last book first n (bucket_of head_bucket book first z) (z + 1) (n - (z + 1))) zl, most, h)
-
     abbrev one : List ℕ
     one = set ws (5120 + z) (get_or ws (5120 + z) 0 - 2048 * (get_or ws (5120 + z) 0 / 2048 % 2048) + 2048 * i)
 

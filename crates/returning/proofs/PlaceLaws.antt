@@ -44,9 +44,6 @@ module _ (book : List ℕ) (R : Readable book) (A : Accepted book) (ws : List �
     at_put : PutAt book ws made top q i (f ∷ after)
     at_put = put_at_lem z C.0
 
-    pub put_top : q < top
-    put_top = at_put.below
-
     pub put_large : 4096 ≤ get_or ws (8200 + 3 * q) 0
     put_large = rw at_put.word (pack_large at_put.s at_put.b)
 

@@ -5,6 +5,7 @@ use Prim.Native.Nat.{ℕ, ◌+◌, ◌*◌}
 use mathlib.Core.Bool.{Bool, true, false}
 use borrow.Author.Tests.{eq-eqb, ne_eqb, eqb-true}
 use lib.Dec.{eqb}
+use Rattle.std.specs.Prelude.{Some, None}
 use Rattle.std.proofs.lemmas.Option.{none-some, same_Some}
 use Rattle.book.specs.Records.{field}
 use Rattle.words.specs.Words.{term_word}
@@ -41,7 +42,7 @@ module _ (book : List ℕ) (c : ℕ) (x : Back) (ws : List ℕ) where
       go false z d = absurd (none-some g (sym d))
 
   body_not_there : None ≡ body_of book c → field book c 5 ≡ 1 → ⊥
-  body_not_there e z = none-some (field book c 6) (e ∙ rw (eq-eqb (field book c 5) 1 z) refl)
+  body_not_there e z = none-some (field book c 6) (e ∙ rw (body_of, eq-eqb (field book c 5) 1 z) refl)
 
   -- what the code writes
   pub body_put : (g : ℕ) (ws' : List ℕ) → Some g ≡ body_of book c → ws' ≡ put_cell x.cells (4096 * (g + 1) + x.made) x.call x.cell ws

@@ -31,6 +31,14 @@ impl Wanted {
         }
     }
 
+    // The refusal's number, from 1 on. None: the book is taken.
+    pub(crate) fn refusal(self) -> Option<u32> {
+        match self {
+            Wanted::Refused { test, .. } => Some(test).filter(|number| *number != 0),
+            Wanted::Ended { .. } => None,
+        }
+    }
+
     pub(crate) fn group(self) -> Group {
         match self {
             Wanted::Refused { test, .. } => Group((test % 8) as usize + 6),

@@ -31,10 +31,9 @@ fn wanted<T: Start>(written: Option<&[T]>, i: usize) -> T {
     }
 }
 
-// The first place that is not as it must be, or the number of places.
-pub(crate) fn first_wrong<T: Start>(all: &[T], written: Option<&[T]>) -> usize {
+// The first place that is not as it must be, if there is one.
+pub(crate) fn first_wrong<T: Start>(all: &[T], written: Option<&[T]>) -> Option<usize> {
     all.iter()
         .enumerate()
         .position(|(i, x)| *x != wanted(written, i))
-        .unwrap_or(all.len())
 }

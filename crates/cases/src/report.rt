@@ -1,7 +1,7 @@
 // What the program prints.
 use std::fmt;
 
-// A case that is wrong: the reply, the reply wanted, and the first word and byte that are wrong.
+// A case that is wrong: the reply, the reply wanted, and up to which word and byte all are right.
 #[derive(Clone, Copy)]
 pub(crate) struct Wrong {
     pub(crate) reply: [u32; 6],

@@ -2,6 +2,7 @@
 use crate::case::Case;
 use crate::compare::{fill, first_wrong};
 use crate::report::Wrong;
+use book::Test;
 use reading::read_full;
 use std::io;
 use std::io::Read;
@@ -67,18 +68,27 @@ impl Parts<'_> {
         let want = case.reply.six();
         // Test 1's refusal changes no word; after any other reply all are 0. A refusal changes no byte.
         let no_words: &[u32] = &[];
-        let words = if want[0] == 1 { None } else { Some(no_words) };
-        let bytes = if want[0] != 0 { None } else { Some(&*used) };
+        let refusal = case.reply.refusal();
+        let words = if refusal == Some(Test::Room as u32) {
+            None
+        } else {
+            Some(no_words)
+        };
+        let bytes = if refusal.is_some() {
+            None
+        } else {
+            Some(&*used)
+        };
         let word = first_wrong(workspace, words);
         let byte = first_wrong(out, bytes);
-        if reply == want && word == workspace.len() && byte == out.len() {
+        if reply == want && word.is_none() && byte.is_none() {
             return Ok(());
         }
         Err(Wrong {
             reply,
             want,
-            word,
-            byte,
+            word: word.unwrap_or(workspace.len()),
+            byte: byte.unwrap_or(out.len()),
         })
     }
 }

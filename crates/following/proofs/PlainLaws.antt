@@ -17,6 +17,7 @@ use Rattle.book.proofs.Tests.{and_true}
 use Rattle.book.proofs.Accepted.{Formed}
 use Rattle.book.proofs.Pointers.{clause_body}
 use Rattle.machine.specs.Machine.{Force, candidates, added}
+use Rattle.words.specs.Body.{body_of}
 use Rattle.index.specs.Runs.{head_matches, next_match, found_below}
 use Rattle.index.proofs.RunLaws.{found_some, found_none}
 use Rattle.branch.specs.State.{OwnReady, own_run}
@@ -81,13 +82,9 @@ module _ (book : List ℕ) (c : ℕ) where
   unfolding plain_clause
   clause_variables h = rw (plain_clause, ne_eqb (field book c 1) 0 h) refl
 
-  pub clause_bodiless : field book c 1 ≡ 0 → (field book c 5 ≡ 1 → ⊥) → None ≡ plain_clause book c
+  pub clause_bare : field book c 1 ≡ 0 → body_of book c ≡ plain_clause book c
   unfolding plain_clause
-  clause_bodiless e h = rw (plain_clause, eq-eqb (field book c 1) 0 e, ne_eqb (field book c 5) 1 h) refl
-
-  pub clause_plain : field book c 1 ≡ 0 → field book c 5 ≡ 1 → Some (field book c 6) ≡ plain_clause book c
-  unfolding plain_clause
-  clause_plain e d = rw (plain_clause, eq-eqb (field book c 1) 0 e, eq-eqb (field book c 5) 1 d) refl
+  clause_bare e = rw (plain_clause, eq-eqb (field book c 1) 0 e) refl
 
 module _ (book : List ℕ) (g : ℕ) where
   pub not_atom : eqb (field book g 0) 4 ≡ false → None ≡ plain_body book g

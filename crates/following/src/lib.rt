@@ -28,10 +28,7 @@ fn plain_clause(book: &Book, c: u32) -> Option<u32>
     if book.field(c, 1) != 0 {
         return None;
     }
-    if book.field(c, 5) != 1 {
-        return None;
-    }
-    Some(book.field(c, 6))
+    book.body(c)
 }
 
 // The record of the body of the plain rule for goal g, if there is one. The question's own run is `run`.

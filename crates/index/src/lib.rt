@@ -27,6 +27,14 @@ impl Head {
             count: (both / 65536) as u16,
         }
     }
+
+    // The head of clause c, the atom that its number 4 points at.
+    pub fn of_clause(book: &Book, c: u32) -> Head
+        requires { (c < records book.now.bytes.now) × (book_field book.now.bytes.now c 4 < records book.now.bytes.now) }
+        ensures { (result.symbol ≡ book_field book.now.bytes.now (book_field book.now.bytes.now c 4) 1) × (result.count ≡ book_field book.now.bytes.now (book_field book.now.bytes.now c 4) 2) }
+    {
+        Head::read(book, book.field(c, 4))
+    }
 }
 
 // A run of clauses: its first link, and how many links it has.
@@ -111,8 +119,7 @@ fn enter_own(book: &Book, ws: &mut Words, run: Run, i: u32)
     ensures { IndexedFrom book.now.bytes.now run.first run.count i ws.old ws.new }
 {
     let c = book.field(run.first + i, 1);
-    let h = book.field(c, 4);
-    let head = Head::read(book, h);
+    let head = Head::of_clause(book, c);
     match head_node(book, ws, run, head) {
         Some(z) => {
             let w = ws[(5120 + z) as usize];

@@ -6,12 +6,6 @@ use native.Mathlib.Omega.{arith}
 use native.Mathlib.Decide.{dec_lt}
 use lib.Seq.{ext_get_or}
 use lib.ListN.{length, get_or}
-use Rattle.std.proofs.Common.{Result, Ok, Err}
-use Rattle.book.specs.declared.Kind as code
-use Rattle.book.specs.declared.Kind.TheVariants.{Variable, Term, Link, Atom, And, Or, Suppose, Clause, Tie, Question}
-use Rattle.book.specs.declared.UnknownKind.{UnknownKind}
-use Rattle.book.specs.Kinds.{Kind, variable_kind, term_kind, link_kind, atom_kind, and_kind, or_kind, suppose_kind, clause_kind, tie_kind, question_kind, no_kind}
-use Rattle.book.specs.KindRead.{kind_read, KindRead}
 use Rattle.words.specs.Words.{term_w}
 use Rattle.index.specs.Index.{IndexedFrom}
 use Rattle.branch.proofs.open_again.Reads as branch-open-again-reads
@@ -28,6 +22,7 @@ use Rattle.supposed.proofs.is_supposed.Reads as supposed-is-supposed-reads
 use Rattle.steps.proofs.to_back.Reads as steps-to-back-reads
 use Rattle.following.proofs.follow.Reads as following-follow-reads
 use Rattle.index.proofs.Head.read.Reads as index-head-read-reads
+use Rattle.index.proofs.Head.of_clause.Reads as index-head-of-clause-reads
 use Rattle.index.proofs.Run.read.Reads as index-run-read-reads
 use Rattle.index.proofs.head_matches.Reads as index-head-matches-reads
 use Rattle.index.proofs.head_bucket.Reads as index-head-bucket-reads
@@ -38,7 +33,7 @@ use Rattle.words.proofs.clear_words.Reads as words-clear-words-reads
 use Rattle.words.proofs.Book.records.Reads as words-records-reads
 use Rattle.words.proofs.Book.last.Reads as words-last-reads
 use Rattle.words.proofs.Book.field.Reads as words-field-reads
-use Rattle.words.proofs.Book.kind.Reads as words-kind-reads
+use Rattle.words.proofs.Book.body.Reads as words-body-reads
 use Rattle.words.proofs.Book.is.Reads as words-is-reads
 use Rattle.words.proofs.Book.word_for.Reads as words-word-for-reads
 use Rattle.words.proofs.push_terms.Reads as words-push-terms-reads
@@ -90,6 +85,9 @@ supposed_is_supposed κs a r r' s s' p q = p ∙ sym q
 pub index_Head_read : (κs : _) (a : _) (r r' : _) (s s' : _) → index-head-read-reads.Post κs a r s → index-head-read-reads.Post κs a r' s' → r ≡ r'
 index_Head_read κs a r r' s s' p q = λ i. record { symbol = (p.0 ∙ sym q.0) i; count = (p.1 ∙ sym q.1) i }
 
+pub index_of_clause : (κs : _) (a : _) (r r' : _) (s s' : _) → index-head-of-clause-reads.Post κs a r s → index-head-of-clause-reads.Post κs a r' s' → r ≡ r'
+index_of_clause κs a r r' s s' p q = λ i. record { symbol = (p.0 ∙ sym q.0) i; count = (p.1 ∙ sym q.1) i }
+
 pub index_Run_read : (κs : _) (a : _) (r r' : _) (s s' : _) → index-run-read-reads.Post κs a r s → index-run-read-reads.Post κs a r' s' → r ≡ r'
 index_Run_read κs a r r' s s' p q = λ i. record { first = (p.0 ∙ sym q.0) i; count = (p.1 ∙ sym q.1) i }
 
@@ -120,48 +118,8 @@ words_last κs a r r' s s' p q = p ∙ sym q
 pub words_field : (κs : _) (a : _) (r r' : _) (s s' : _) → words-field-reads.Post κs a r s → words-field-reads.Post κs a r' s' → r ≡ r'
 words_field κs a r r' s s' p q = p.0 ∙ sym q.0
 
--- words::Book::kind: the kind that a number is read as, and the number itself where no kind has it
-kind_back : Kind → Result code.Kind UnknownKind → Result code.Kind UnknownKind
-kind_back variable_kind r = Ok Variable
-kind_back term_kind r = Ok Term
-kind_back link_kind r = Ok Link
-kind_back atom_kind r = Ok Atom
-kind_back and_kind r = Ok And
-kind_back or_kind r = Ok Or
-kind_back suppose_kind r = Ok Suppose
-kind_back clause_kind r = Ok Clause
-kind_back tie_kind r = Ok Tie
-kind_back question_kind r = Ok Question
-kind_back no_kind r = r
-
-kind_again : (k : code.Kind) (r : Result code.Kind UnknownKind) → Ok k ≡ kind_back (kind_read (Ok k)) r
-unfolding kind_back
-kind_again Variable r = refl
-kind_again Term r = refl
-kind_again Link r = refl
-kind_again Atom r = refl
-kind_again And r = refl
-kind_again Or r = refl
-kind_again Suppose r = refl
-kind_again Clause r = refl
-kind_again Tie r = refl
-kind_again Question r = refl
-
-kind_same : (r : Result code.Kind UnknownKind) → kind_back (kind_read r) r ≡ r
-unfolding kind_back
-kind_same (Ok k) = sym (kind_again k (Ok k))
-kind_same (Err e) = refl
-
-one_kind : (k : code.Kind) (r : Result code.Kind UnknownKind) → kind_read (Ok k) ≡ kind_read r → Ok k ≡ r
-one_kind k r e = kind_again k r ∙ ap (λ (x : Kind). kind_back x r) e ∙ kind_same r
-
-same_kind : (n : ℕ) (r r' : Result code.Kind UnknownKind) → KindRead n r → KindRead n r' → r ≡ r'
-same_kind n (Ok k) r p q = one_kind k r (p.0 ∙ sym q.0)
-same_kind n (Err e) (Ok k) p q = sym (one_kind k (Err e) (q.0 ∙ sym p.0))
-same_kind n (Err e) (Err f) p q = λ i. Err (record { 0 = (p.1 ∙ sym q.1) i })
-
-pub words_kind : (κs : _) (a : _) (r r' : _) (s s' : _) → words-kind-reads.Post κs a r s → words-kind-reads.Post κs a r' s' → r ≡ r'
-words_kind κs a r r' s s' p q = same_kind _ r r' p q
+pub words_body : (κs : _) (a : _) (r r' : _) (s s' : _) → words-body-reads.Post κs a r s → words-body-reads.Post κs a r' s' → r ≡ r'
+words_body κs a r r' s s' p q = p.value ∙ sym q.value
 
 pub words_is : (κs : _) (a : _) (r r' : _) (s s' : _) → words-is-reads.Post κs a r s → words-is-reads.Post κs a r' s' → r ≡ r'
 words_is κs a r r' s s' p q = p ∙ sym q

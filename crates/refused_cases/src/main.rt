@@ -4,7 +4,7 @@
 // the refusal's number or 0, the record) and the book. Numbers are u32, low byte first.
 #![tactic(auto)]
 
-use book::Refusal;
+use book::{Refusal, Test};
 use reading::read_full;
 use std::io;
 use std::io::Read;
@@ -72,7 +72,7 @@ fn agrees(v: Result<(), Refusal>, c: Case) -> bool {
 fn case_fits(c: Case, book: &[u8], ws: &mut [u32]) -> bool {
     fill(ws);
     let v = refusals::verdict(book, ws, c.buffer, c.wanted);
-    agrees(v, c) && words_fit(ws, c.refusal == Some(1))
+    agrees(v, c) && words_fit(ws, c.refusal == Some(Test::Room as u32))
 }
 
 // The book is read into all of the slice.

@@ -92,17 +92,18 @@ fn put_body(book: &Book, ws: &mut Words, c: u32, x: Back) -> Front
     ensures ws_after { ws.new ≡ body_words book.now.bytes.now c x ws.old }
     ensures value { result ≡ front_of book.now.bytes.now c x }
 {
-    if book.field(c, 5) == 1 {
-        let g = book.field(c, 6);
-        branch::put_cell(ws, x.cells, 4096 * (g + 1) + x.made, x.call, x.cell);
-        return Front {
-            cell: x.cells,
-            cells: x.cells + 1,
-        };
-    }
-    Front {
-        cell: x.cell,
-        cells: x.cells,
+    match book.body(c) {
+        Some(g) => {
+            branch::put_cell(ws, x.cells, 4096 * (g + 1) + x.made, x.call, x.cell);
+            Front {
+                cell: x.cells,
+                cells: x.cells + 1,
+            }
+        }
+        None => Front {
+            cell: x.cell,
+            cells: x.cells,
+        },
     }
 }
 

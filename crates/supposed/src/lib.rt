@@ -71,8 +71,7 @@ fn enter_clause(book: &Book, ws: &mut Words, s: u32, run: Run, i: u32)
     ensures { ws.new ≡ enter_clause book.now.bytes.now s run.first run.count i ws.old }
 {
     let c = book.field(run.first + i, 1);
-    let h = book.field(c, 4);
-    let head = Head::read(book, h);
+    let head = Head::of_clause(book, c);
     let at = run.first + small_bucket(run.count, head);
     let next = note_of(ws, at);
     note(ws, c, next);

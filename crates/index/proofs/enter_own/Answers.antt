@@ -24,7 +24,7 @@ bounds-ws-z-in-Some c = let p = c.requires in let x = found_some _ _ _ (c.in-Som
 pub returns-in-Some : goal.returns-in-Some
 returns-in-Some c = let p = c.requires in
     let x = found_some _ _ _ (c.in-Some.ensures (c.args.i + 1) (omega (arith, p.i_lt_n.0)) (made_list _ _ _ _ _ _ p.i_lt_n.2 (omega (arith, p.i_lt_n.0)) p.indexed_from)) in
-    entered_before _ _ _ _ _ _ _ _ c.told-ws p.i_lt_n.2 p.i_lt_n.0 p.indexed_from (code_head _ _ _ _ _ _ _ c.field-c.ensures.0 c.field-h.ensures.0 c.read-head.ensures.0 c.read-head.ensures.1) x.1 (omega (arith, x.0, x.1))
+    entered_before _ _ _ _ _ _ _ _ c.told-ws p.i_lt_n.2 p.i_lt_n.0 p.indexed_from (code_head _ _ _ _ _ _ _ c.field-c.ensures.0 refl c.of_clause-head.ensures.0 c.of_clause-head.ensures.1) x.1 (omega (arith, x.0, x.1))
 
 pub overflow_mul-ws-in-None : goal.overflow_mul-ws-in-None
 overflow_mul-ws-in-None c = let least : c.link_or-link.result < c.args.run.count = rw c.link_or-link.ensures (link_small _ _ _ c.requires.i_lt_n.0) in omega (arith, least, c.requires.i_lt_n.2)
@@ -38,5 +38,5 @@ overflow_add-ws-in-None-2 c = let least : c.link_or-link.result < c.args.run.cou
 pub returns-in-None : goal.returns-in-None
 returns-in-None c = let p = c.requires in
     let x = found_none _ _ (c.in-None.ensures (c.args.i + 1) (omega (arith, p.i_lt_n.0)) (made_list _ _ _ _ _ _ p.i_lt_n.2 (omega (arith, p.i_lt_n.0)) p.indexed_from)) in
-    entered_new _ _ _ _ _ _ _ _ c.told-ws p.i_lt_n.2 p.i_lt_n.0 p.indexed_from (code_head _ _ _ _ _ _ _ c.field-c.ensures.0 c.field-h.ensures.0 c.read-head.ensures.0 c.read-head.ensures.1) refl x
+    entered_new _ _ _ _ _ _ _ _ c.told-ws p.i_lt_n.2 p.i_lt_n.0 p.indexed_from (code_head _ _ _ _ _ _ _ c.field-c.ensures.0 refl c.of_clause-head.ensures.0 c.of_clause-head.ensures.1) refl x
     _ _ _ c.head_bucket.ensures.0 c.head_bucket.ensures.1 c.link_or-link.ensures c.field-c.ensures.0

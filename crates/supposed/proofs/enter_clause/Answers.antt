@@ -1,3 +1,4 @@
+use mathlib.Core.Path.{refl}
 use Rattle.words.proofs.ReadLaws.{in_book}
 use Rattle.supposed.proofs.NoteLaws.{note_small}
 use Rattle.supposed.proofs.NoteWords.{enter_written}
@@ -8,6 +9,6 @@ note-requires c = let p = c.requires in (rw c.field-c.ensures.0 (in_book _ c.arg
 
 pub returns : goal.returns
 returns c =
-    enter_written _ _ _ _ _ _ _ _ c.field-c.ensures.0 c.field-h.ensures.0 c.read-head.ensures.0 c.read-head.ensures.1
+    enter_written _ _ _ _ _ _ _ _ c.field-c.ensures.0 refl c.of_clause-head.ensures.0 c.of_clause-head.ensures.1
     _ _ _ _ _ _ _ _ c.small_bucket.ensures.0 c.note_of-next.ensures c.note.ensures
     c.note-2.ensures c.head_bucket.ensures.0 c.mark.ensures

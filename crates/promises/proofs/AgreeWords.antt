@@ -1,5 +1,5 @@
 -- Any two results that a contract allows agree. The reads, the stacks and the bindings of a branch: every word of the workspace.
-use mathlib.Core.Path.{◌≡◌, refl, sym, ◌∙◌, ap, subst}
+use mathlib.Core.Path.{◌≡◌, sym, ◌∙◌, subst}
 use mathlib.Core.List.{List}
 use Prim.Native.Nat.{ℕ, ◌+◌, ◌-◌, ◌<◌}
 use native.Mathlib.Omega.{arith}
@@ -119,7 +119,7 @@ pub words_field : (κs : _) (a : _) (r r' : _) (s s' : _) → words-field-reads.
 words_field κs a r r' s s' p q = p.0 ∙ sym q.0
 
 pub words_body : (κs : _) (a : _) (r r' : _) (s s' : _) → words-body-reads.Post κs a r s → words-body-reads.Post κs a r' s' → r ≡ r'
-words_body κs a r r' s s' p q = p.value ∙ sym q.value
+words_body κs a r r' s s' p q = p.0 ∙ sym q.0
 
 pub words_is : (κs : _) (a : _) (r r' : _) (s s' : _) → words-is-reads.Post κs a r s → words-is-reads.Post κs a r' s' → r ≡ r'
 words_is κs a r r' s s' p q = p ∙ sym q

@@ -19,7 +19,7 @@ use Rattle.index.specs.Index.{head_bucket, bucket_of, start_of, is_last, next_la
 use Rattle.index.proofs.BucketLaws.{matching_bucket}
 use Rattle.index.proofs.SuchLaws.{such_none}
 use Rattle.index.proofs.ListLaws.{start_bounds, last_bounds, last_found, list_bounds, list_here, list_other, list_past}
-use Rattle.index.proofs.ListLaws.{word_last, word_not, start_here, word_keep, last_one, same_next, not_the_last, the_last, none_other}
+use Rattle.index.proofs.ListLaws.{word_last, word_not, link_small, start_here, word_keep, last_one, same_next, not_the_last, the_last, none_other}
 
 -- THE WORD OF A CLAUSE
 module _ (book : List ℕ) (first n : ℕ) where

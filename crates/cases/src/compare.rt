@@ -1,19 +1,19 @@
 // What the workspace and the answer buffer hold before a call, and must hold after it.
 
-// What word i and byte i are before the call: never 0.
+// What word i and byte i are before the call: never 0. Of a place its low 16 bits are taken, so that no remainder is one of 64 bits: the program's run has half the instructions.
 pub(crate) trait Start: Copy + PartialEq + Default {
     fn start(i: usize) -> Self;
 }
 
 impl Start for u32 {
     fn start(i: usize) -> u32 {
-        (i % 65521) as u32 + 1
+        (i % 65536) as u32 + 1
     }
 }
 
 impl Start for u8 {
     fn start(i: usize) -> u8 {
-        (i % 251) as u8 + 1
+        ((i % 65536) as u32 % 251) as u8 + 1
     }
 }
 

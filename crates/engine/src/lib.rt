@@ -29,9 +29,9 @@ fn run_accepted(book: &[u8], budget: u32, wanted: u32, ws: &mut [u32], out: &mut
         unreachable!()
     };
     open_words(words);
-    out.fill(0);
+    answers::clear(out);
     let run = lending::counted_run(&Book { bytes: book }, words, out, wanted, budget);
-    ws.fill(0);
+    pointing::clear(ws);
     Reply {
         outcome: Ok(run.ending),
         tally: run.tally,

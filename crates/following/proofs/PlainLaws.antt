@@ -194,9 +194,9 @@ module _ (book : List ℕ) (F : Formed book) (O : OwnReady book 0) (start : ℕ)
 -- THE LOOP: the code's next goal
 module _ (book : List ℕ) where
   module _ (g n most : ℕ) where
-    pub loop_end : n ≤ most → most ≤ n → record { goal = g; rules = most } ≡ follow_on book g n (most - n)
+    pub loop_end : (r : ℕ) → r ≡ most → n ≡ most → record { goal = g; rules = r } ≡ follow_on book g n (most - n)
     unfolding follow_on
-    loop_end l h = let z : most - n ≡ 0 = omega arith in let e : n ≡ most = omega arith in rw (z, follow_on, e) refl
+    loop_end r d e = let z : most - n ≡ 0 = omega arith in rw (z, follow_on, d, e) refl
 
     pub loop_none : plain_body book g ≡ None → n < most → record { goal = g; rules = n } ≡ follow_on book g n (most - n)
     unfolding follow_on

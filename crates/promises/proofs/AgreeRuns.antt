@@ -5,6 +5,7 @@ use native.Mathlib.Omega.{arith}
 use lib.ListN.{get_or}
 use Rattle.running.specs.declared.Ran.{Ran}
 use Rattle.answers.proofs.put_record.Reads as answers-put-record-reads
+use Rattle.answers.proofs.clear.Reads as answers-clear-reads
 use Rattle.answers.proofs.write_answer.Reads as answers-write-answer-reads
 use Rattle.running.proofs.run.Reads as running-run-reads
 use Rattle.starting.proofs.whole_run.Reads as starting-whole-run-reads
@@ -12,6 +13,9 @@ use Rattle.lending.proofs.counted_run.Reads as lending-counted-run-reads
 
 pub answers_put_record : (κs : _) (a : _) (r r' : _) (s s' : _) → answers-put-record-reads.Post κs a r s → answers-put-record-reads.Post κs a r' s' → s.0.now ≡ s'.0.now
 answers_put_record κs a r r' s s' p q = p ∙ sym q
+
+pub answers_clear : (κs : _) (a : _) (r r' : _) (s s' : _) → answers-clear-reads.Post κs a r s → answers-clear-reads.Post κs a r' s' → s.0.now ≡ s'.0.now
+answers_clear κs a r r' s s' p q = p ∙ sym q
 
 -- answers::write_answer: the list of terms, words 16128 up, is its scratch
 pub answers_write_answer : (κs : _) (a : _) (r r' : _) (s s' : _) → answers-write-answer-reads.Post κs a r s → answers-write-answer-reads.Post κs a r' s'

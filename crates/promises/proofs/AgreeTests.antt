@@ -10,6 +10,7 @@ use Rattle.fields.proofs.link_fits.Reads as fields-link-fits-reads
 use Rattle.fields.proofs.and_fits.Reads as fields-and-fits-reads
 use Rattle.fields.proofs.suppose_fits.Reads as fields-suppose-fits-reads
 use Rattle.fields.proofs.clause_fits.Reads as fields-clause-fits-reads
+use Rattle.pointing.proofs.clear.Reads as pointing-clear-reads
 use Rattle.pointing.proofs.tree_test.Reads as pointing-tree-test-reads
 use Rattle.records.proofs.body.Reads as records-body-reads
 use Rattle.records.proofs.read_record.Reads as records-read-record-reads
@@ -52,6 +53,9 @@ fields_suppose_fits κs a r r' s s' p q = p ∙ sym q
 
 pub fields_clause_fits : (κs : _) (a : _) (r r' : _) (s s' : _) → fields-clause-fits-reads.Post κs a r s → fields-clause-fits-reads.Post κs a r' s' → r ≡ r'
 fields_clause_fits κs a r r' s s' p q = p ∙ sym q
+
+pub pointing_clear : (κs : _) (a : _) (r r' : _) (s s' : _) → pointing-clear-reads.Post κs a r s → pointing-clear-reads.Post κs a r' s' → s.0.now ≡ s'.0.now
+pointing_clear κs a r r' s s' p q = p ∙ sym q
 
 pub pointing_tree_test : (κs : _) (a : _) (r r' : _) (s s' : _) → pointing-tree-test-reads.Post κs a r s → pointing-tree-test-reads.Post κs a r' s' → (r ≡ r') × (s.1.0.now ≡ s'.1.0.now)
 pointing_tree_test κs a r r' s s' p q = (p.0 ∙ sym q.0, p.1 ∙ sym q.1)

@@ -30,6 +30,7 @@ use Rattle.index.proofs.clause_at.Reads as index-clause-at-reads
 use Rattle.index.proofs.first_match.Reads as index-first-match-reads
 use Rattle.index.proofs.match_after.Reads as index-match-after-reads
 use Rattle.words.proofs.clear_words.Reads as words-clear-words-reads
+use Rattle.words.proofs.index.Reads as words-index-reads
 use Rattle.words.proofs.Book.records.Reads as words-records-reads
 use Rattle.words.proofs.Book.last.Reads as words-last-reads
 use Rattle.words.proofs.Book.field.Reads as words-field-reads
@@ -108,6 +109,9 @@ following_follow κs a r r' s s' p q = p ∙ sym q
 
 pub index_clause_at : (κs : _) (a : _) (r r' : _) (s s' : _) → index-clause-at-reads.Post κs a r s → index-clause-at-reads.Post κs a r' s' → r ≡ r'
 index_clause_at κs a r r' s s' p q = p ∙ sym q
+
+pub words_index : (κs : _) (a : _) (r r' : _) (s s' : _) → words-index-reads.Post κs a r s → words-index-reads.Post κs a r' s' → r ≡ r'
+words_index κs a r r' s s' p q = p ∙ sym q
 
 pub words_records : (κs : _) (a : _) (r r' : _) (s s' : _) → words-records-reads.Post κs a r s → words-records-reads.Post κs a r' s' → r ≡ r'
 words_records κs a r r' s s' p q = p ∙ sym q

@@ -4,6 +4,8 @@
 // the refusal's number or 0, the record) and the book. Numbers are u32, low byte first.
 #![tactic(auto)]
 
+ghost use Rattle.std.specs.Prelude.{◌≡◌, ◌+◌, ◌%◌};
+
 use book::{Refusal, Test};
 use reading::read_full;
 use std::io;
@@ -46,19 +48,26 @@ impl Case {
 }
 
 // Word i of the workspace before the call: never 0, and not the same as its neighbour.
-fn before(i: usize) -> u32 {
+fn before(i: usize) -> u32
+    ensures { result ≡ i % 251 + 1 }
+{
     (i % 251 + 1) as u32
 }
 
+// Here and below: no workspace has 65,536 words, and with `% 65536` no remainder in `before` is one of 64 bits, so that the program's run has half the instructions.
 fn fill(ws: &mut [u32]) {
     for (i, word) in ws.iter_mut().enumerate() {
-        *word = before(i);
+        *word = before(i % 65536);
     }
 }
 
 // Every word is as it was before the call, if it is to be kept; else every word is 0.
 fn words_fit(ws: &[u32], kept: bool) -> bool {
-    ws.iter().enumerate().all(|(i, word)| if kept { *word == before(i) } else { *word == 0 })
+    ws.iter().enumerate().all(|(i, word)| if kept {
+        *word == before(i % 65536)
+    } else {
+        *word == 0
+    })
 }
 
 fn agrees(v: Result<(), Refusal>, c: Case) -> bool {

@@ -101,8 +101,9 @@ module _ (book : List ℕ) (R : Readable book) (F : Formed book) (ws : List ℕ)
       among : r ≡ found_below (field book X.s 2) next
       among = e ∙ rw record_is refl
 
-      pub found_here : (i : ℕ) → r ≡ Some i → Sought book ws made top f m rest (Some (record { program = q; clause = i }))
-      found_here i h = let y = found_some _ _ i (sym h ∙ among) in seek_found i y.1 (omega (arith, y.0, y.1))
+      -- that the number told is the one found is a fact of its own
+      pub found_here : (i : ℕ) → r ≡ Some i → (told : ℕ) → told ≡ i → Sought book ws made top f m rest (Some (record { program = q; clause = told }))
+      found_here i h told same = rw same (let y = found_some _ _ i (sym h ∙ among) in seek_found i y.1 (omega (arith, y.0, y.1)))
 
       pub none_found : r ≡ None → candidates f m rest ≡ candidates f m X.program
       none_found h = seek_next (found_none _ _ (sym h ∙ among))
@@ -114,7 +115,7 @@ module _ (book : List ℕ) (R : Readable book) (F : Formed book) (ws : List ℕ)
   from_none = let z : field book (get_or ws (8200 + 3 * q) 0 / 4096 - 1) 2 - 0 ≡ field book (get_or ws (8200 + 3 * q) 0 / 4096 - 1) 2 = omega arith in rw z e
 
   pub first_here : (i : ℕ) → r ≡ Some i → Sought book ws made top f m rest (Some (record { program = q; clause = i }))
-  first_here i h = found_here book R F ws made top q 0 rest X f m r from_none i h
+  first_here i h = found_here book R F ws made top q 0 rest X f m r from_none i h i refl
 
   pub first_none : r ≡ None → candidates f m rest ≡ candidates f m X.program
   first_none h = none_found book R F ws made top q 0 rest X f m r from_none h

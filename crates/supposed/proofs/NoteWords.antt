@@ -80,18 +80,19 @@ module _ (book : List ℕ) (s first n : ℕ) (e : eqb (field book s 0) 7 ≡ tru
   pub supposed_ready : Readable book → Formed book → s < records book → ClauseRun book first n × (0 < n) × (n ≤ 64) × (first + n ≤ 4096)
   supposed_ready R F h = rw (pf, pn) (suppose_run book R F s h (seven_kind book s (eqb-true _ _ e)))
 
-  pub supposed_more : (ws₀ ws ws' : List ℕ) → ws ≡ supposed_words book s ws₀ → ws' ≡ run_words book s first n n ws → ws' ≡ supposed_words book (s + 1) ws₀
+  -- that s is the loop's record t is a fact of its own
+  pub supposed_more : (t : ℕ) → t ≡ s → (ws₀ ws ws' : List ℕ) → ws ≡ supposed_words book t ws₀ → ws' ≡ run_words book s first n n ws → ws' ≡ supposed_words book (t + 1) ws₀
   unfolding supposed_words
-  supposed_more ws₀ ws ws' p q =
-      let z : s + 1 ≡ suc s = omega arith in
-      rw (z, supposed_words, e, ← pf, ← pn, ← p) q
+  supposed_more t same ws₀ ws ws' p q =
+      let z : t + 1 ≡ suc s = omega arith in
+      rw (z, supposed_words, e, ← pf, ← pn, ← (rw same at p)) q
 
 pub supposed_none : (book : List ℕ) (ws₀ : List ℕ) → ws₀ ≡ supposed_words book 0 ws₀
 unfolding supposed_words
 supposed_none book ws₀ = refl
 
-pub supposed_on : (book : List ℕ) (s : ℕ) → eqb (field book s 0) 7 ≡ false → (ws₀ ws : List ℕ) → ws ≡ supposed_words book s ws₀ → ws ≡ supposed_words book (s + 1) ws₀
+pub supposed_on : (book : List ℕ) (s : ℕ) → eqb (field book s 0) 7 ≡ false → (t : ℕ) → t ≡ s → (ws₀ ws : List ℕ) → ws ≡ supposed_words book t ws₀ → ws ≡ supposed_words book (t + 1) ws₀
 unfolding supposed_words
-supposed_on book s e ws₀ ws p =
-    let z : s + 1 ≡ suc s = omega arith in
-    rw (z, supposed_words, e) p
+supposed_on book s e t same ws₀ ws p =
+    let z : t + 1 ≡ suc s = omega arith in
+    rw (z, supposed_words, e) (rw same at p)

@@ -63,9 +63,9 @@ pub not_marked : (book : List ℕ) (ws : List ℕ) (f m s k : ℕ) → SupposedI
     → next_match book f m (field book s 1) k (field book s 2 - k) ≡ field book s 2
 not_marked book ws f m s k I h e u = not_marked_by book ws f m s k I h e (marked_by_none ws (head_bucket f m) s u)
 
--- so the first of them is none, as the code says it
-pub none_first : (book : List ℕ) (ws : List ℕ) (f m s : ℕ) → SupposedIndexed book ws → s < records book → kind_at book s ≡ suppose_kind → marked_by ws (head_bucket f m) s ≡ false
+-- so the first of them is none, as the code says it; that the class asked for, o's, is that of s is a fact of its own
+pub none_first : (book : List ℕ) (ws : List ℕ) (f m s : ℕ) → SupposedIndexed book ws → s < records book → kind_at book s ≡ suppose_kind → (o : ℕ) → o ≡ s → marked_by ws (head_bucket f m) o ≡ false
     → None ≡ found_below (field book s 2) (next_match book f m (field book s 1) 0 (field book s 2))
-none_first book ws f m s I h e u =
+none_first book ws f m s I h e o same u =
     let z : field book s 2 - 0 ≡ field book s 2 = omega arith in
-    found_no _ _ (omega (arith, rw z at (not_marked_by book ws f m s 0 I h e u (omega arith))))
+    found_no _ _ (omega (arith, rw z at (not_marked_by book ws f m s 0 I h e (rw same at u) (omega arith))))

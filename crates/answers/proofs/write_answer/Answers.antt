@@ -12,7 +12,7 @@ write_terms-a-requires-clause-no_numbers c = let p = c.requires in start_none _ 
 
 pub returns-then-is_err : goal.returns-then-is_err
 returns-then-is_err c = let p = c.requires in let t = p.unknowns_le_made in let e = c.put_unknowns.ensures in
-    let w = end_cut _ _ _ _ p.slots t.1 p.no_numbers _ e _ _ _ _ _ _ c.write_terms-a.ensures t.2 c.if-is_err.ensures.value _ (c.fill.ensures.after (λ y e. e)) in record { value = w.0; out_after = w.1; keeps = end_keeps _ _ _ _ p.slots t.1 p.no_numbers _ e _ _ _ _ _ _ c.write_terms-a.ensures _ c.clear_words.ensures }
+    let w = end_cut _ _ _ _ p.slots t.1 p.no_numbers _ e _ _ _ _ _ _ c.write_terms-a.ensures t.2 c.if-is_err.ensures.value _ c.clear.ensures in record { value = w.0; out_after = w.1; keeps = end_keeps _ _ _ _ p.slots t.1 p.no_numbers _ e _ _ _ _ _ _ c.write_terms-a.ensures _ c.clear_words.ensures }
 
 pub returns-else-is_err : goal.returns-else-is_err
 returns-else-is_err c = let p = c.requires in let t = p.unknowns_le_made in let e = c.put_unknowns.ensures in

@@ -10,9 +10,9 @@ invariant_of-counted_run c = record { readable = readable _ c.requires.accepted 
 pub counted_run-run-requires : goal.counted_run-run-requires
 counted_run-run-requires c =
     let p = c.requires in
-    run_ready _ _ _ _ c.args.out.now _ p.accepted (p.ws_len.1, p.ws_len.2, p.ws_len.3) c.open_words.ensures (c.fill.ensures.after (λ y e. e))
+    run_ready _ _ _ _ c.args.out.now _ p.accepted (p.ws_len.1, p.ws_len.2, p.ws_len.3) c.open_words.ensures c.clear.ensures
 
 pub returns : goal.returns
 returns c =
     let x = c.counted_run-run in
-    let t = run_done _ _ _ _ (length c.args.ws.now) (length c.args.out.now) x.result _ _ _ _ _ x.ensures (search rules) (c.fill-2.ensures.after (λ y e. e)) (search rules) in record { value = t.0; ws_after = t.1.0; out_after = t.1.1 }
+    let t = run_done _ _ _ _ (length c.args.ws.now) (length c.args.out.now) x.result _ _ _ _ _ x.ensures (search rules) c.clear-2.ensures (search rules) in record { value = t.0; ws_after = t.1.0; out_after = t.1.1 }

@@ -14,7 +14,7 @@ none_more r k l = let e : 8 - k ≡ 0 = omega arith in rw e refl
 
 pub loop-k-preserved : goal.loop-k-preserved
 loop-k-preserved g c = let l = c.loop-k in
-    l.invariant ∙ ap (λ b. l.zero && b) (one_more c.args.r l.k c.loop-k-test.true) ∙ sym (and_assoc l.zero (eqb (at c.args.r l.k) 0) (zero_from (l.k + 1) c.args.r))
+    l.invariant ∙ ap (λ b. l.zero && b) (one_more c.args.r l.k (let h = c.loop-k-test.true in omega arith)) ∙ sym (and_assoc l.zero (eqb (at c.args.r l.k) 0) (zero_from (l.k + 1) c.args.r))
 
 pub returns : goal.returns
-returns g c = let l = c.loop-k in sym (l.invariant ∙ ap (λ b. l.zero && b) (none_more c.args.r l.k c.loop-k-test.false) ∙ and-true l.zero)
+returns g c = let l = c.loop-k in sym (l.invariant ∙ ap (λ b. l.zero && b) (none_more c.args.r l.k (let h = c.loop-k-test.false in omega arith)) ∙ and-true l.zero)

@@ -1,5 +1,7 @@
 use native.Mathlib.Omega.{arith}
-use mathlib.Core.Path.{refl, sym, ◌∙◌}
+use mathlib.Core.Bool.{true, false}
+use mathlib.Core.Path.{◌≡◌, refl, sym, ◌∙◌}
+use Rattle.std.specs.Prelude.{is_some}
 use Rattle.index.proofs.RunLaws.{found_none}
 use Rattle.following.proofs.PlainLaws.{link_in, matches_here, found_is, found_one, found_no_one, not_atom, not_bare, none_own, two_own, one_own}
 use Rattle.following.proofs.plain_body.Goals as goal
@@ -20,7 +22,7 @@ pub match_after-requires-clause-i_value : goal.match_after-requires-clause-i_val
 match_after-requires-clause-i_value c = let p = c.requires in let z = found_is _ _ _ _ c.first_match.ensures c.in_ok-i.was in matches_here _ p.formed.0 p.formed.1 _ _ p.run_value.0 p.run_value.1 _ _ z.0 z.1
 
 pub returns-then-is_some : goal.returns-then-is_some
-returns-then-is_some c = let p = c.requires in let z = found_is _ _ _ _ c.first_match.ensures c.in_ok-i.was in two_own _ _ (sym c.is.ensures ∙ c.if-not-is.false) (sym c.field.ensures.0 ∙ c.if-field-ne0.false) _ _ p.run_value.0 p.run_value.1 _ c.read.ensures.0 _ z.0 z.1 _ refl (found_one _ _ _ c.match_after.ensures (sym c.is_some.ensures ∙ c.if-is_some.true))
+returns-then-is_some c = let t : is_some c.match_after.result ≡ true = grind arith in let p = c.requires in let z = found_is _ _ _ _ c.first_match.ensures c.in_ok-i.was in two_own _ _ (sym c.is.ensures ∙ c.if-not-is.false) (sym c.field.ensures.0 ∙ c.if-field-ne0.false) _ _ p.run_value.0 p.run_value.1 _ c.read.ensures.0 _ z.0 z.1 _ refl (found_one _ _ _ c.match_after.ensures t)
 
 pub clause_at-c-requires-clause-i_lt_n : goal.clause_at-c-requires-clause-i_lt_n
 clause_at-c-requires-clause-i_lt_n c = let p = c.requires in let z = found_is _ _ _ _ c.first_match.ensures c.in_ok-i.was in (z.1, omega (arith, p.run_value.0, p.formed.1.first_small), omega (arith, p.run_value.1, p.formed.1.count_small))
@@ -29,4 +31,4 @@ pub plain_clause-requires : goal.plain_clause-requires
 plain_clause-requires c = let p = c.requires in let z = found_is _ _ _ _ c.first_match.ensures c.in_ok-i.was in rw c.clause_at-c.ensures (link_in _ p.formed.0 p.formed.1 _ _ p.run_value.0 p.run_value.1 _ z.1).1
 
 pub returns : goal.returns
-returns c = let p = c.requires in let z = found_is _ _ _ _ c.first_match.ensures c.in_ok-i.was in c.plain_clause.ensures ∙ rw c.clause_at-c.ensures (one_own _ _ (sym c.is.ensures ∙ c.if-not-is.false) (sym c.field.ensures.0 ∙ c.if-field-ne0.false) _ _ p.run_value.0 p.run_value.1 _ c.read.ensures.0 _ z.0 z.1 _ refl (found_no_one _ _ _ c.match_after.ensures (sym c.is_some.ensures ∙ c.if-is_some.false)))
+returns c = let t : is_some c.match_after.result ≡ false = grind arith in let p = c.requires in let z = found_is _ _ _ _ c.first_match.ensures c.in_ok-i.was in c.plain_clause.ensures ∙ rw c.clause_at-c.ensures (one_own _ _ (sym c.is.ensures ∙ c.if-not-is.false) (sym c.field.ensures.0 ∙ c.if-field-ne0.false) _ _ p.run_value.0 p.run_value.1 _ c.read.ensures.0 _ z.0 z.1 _ refl (found_no_one _ _ _ c.match_after.ensures t))

@@ -1,7 +1,7 @@
 use mathlib.Core.Path.{◌≡◌, ◌∙◌, refl, sym}
 use Prim.Native.Nat.{◌≤◌, ◌/◌, ◌-◌}
 use native.Mathlib.Omega.{arith}
-use lib.ListN.{length, replicate}
+use lib.ListN.{length}
 use lib.Seq.{length-take-le}
 use Rattle.book.specs.Records.{records}
 use Rattle.pointing.proofs.MarkLaws.{counts_here, tree_by_counts}
@@ -50,6 +50,5 @@ unfolding records
 returns c =
     let k : length c.mark.new.ws ≡ length c.args.ws.now = search rules in
     let p : records c.args.book.now ≤ length c.args.ws.now = c.requires.2 in
-    let z : c.fill.new.self ≡ replicate (length c.args.ws.now) 0 = search rules in
-    let e = counts_here c.args.book.now c.args.ws.now _ _ z c.mark.ensures in
+    let e = counts_here c.args.book.now c.args.ws.now _ _ c.clear.ensures c.mark.ensures in
     (c.lowest_not_once.ensures ∙ tree_by_counts c.args.book.now _ _ _ c.requires.2 e (omega arith) refl, e)

@@ -1,17 +1,19 @@
 use mathlib.Core.Path.{◌≡◌, refl, sym, ◌∙◌, ap}
-use lib.ListN.{length, replicate}
+use lib.ListN.{length}
 use Rattle.refusals.proofs.PassLaws.{size_refused, size_taken}
 use Rattle.refusals.proofs.WordLaws.{refusing_is, book_refused, book_fine}
 use borrow.Author.Rules.{rules}
-use Rattle.std.proofs.Common.{is_err}
+use native.Mathlib.Omega.{arith}
+use Rattle.std.proofs.Common.{true, false, is_err}
+use Rattle.std.proofs.lemmas.Grind.{common_steps}
+use Rattle.refusals.specs.Passes.{refusing}
 use Rattle.refusals.proofs.book_tests.Goals as goal
 
 pub returns-then-not-size_fits : goal.returns-then-not-size_fits
 returns-then-not-size_fits c =
     let e = c.of.ensures ∙ size_refused c.args.book.now (sym c.size_fits.ensures ∙ c.if-not-size_fits.true) in
     let f = refusing_is _ ∙ ap is_err c.of.ensures in
-    let z : c.fill.new.self ≡ replicate (length c.args.ws.now) 0 = search rules in
-    (e, book_refused c.args.book.now c.args.ws.now _ _ e _ f refl z)
+    (e, book_refused c.args.book.now c.args.ws.now _ _ e _ f refl c.clear.ensures)
 
 pub record_tests-v-requires : goal.record_tests-v-requires
 record_tests-v-requires c = (sym c.size_fits.ensures ∙ c.if-not-size_fits.false, c.requires)
@@ -19,13 +21,12 @@ record_tests-v-requires c = (sym c.size_fits.ensures ∙ c.if-not-size_fits.fals
 pub returns-then-is_err : goal.returns-then-is_err
 returns-then-is_err c =
     let e = c.record_tests-v.ensures.0 ∙ size_taken _ (sym c.size_fits.ensures ∙ c.if-not-size_fits.false) in
-    let f = refusing_is _ ∙ sym c.is_err.ensures.value ∙ c.if-is_err.true in
+    let f : refusing c.record_tests-v.result ≡ true = refusing_is _ ∙ grind (arith, common_steps) in
     let l : length c.record_tests-v.new.ws ≡ length c.args.ws.now = search rules in
-    let z : c.fill-then-is_err.new.self ≡ replicate (length c.record_tests-v.new.ws) 0 = search rules in
-    (e, book_refused c.args.book.now c.args.ws.now _ _ e _ f l z)
+    (e, book_refused c.args.book.now c.args.ws.now _ _ e _ f l c.clear-then-is_err.ensures)
 
 pub returns-else-is_err : goal.returns-else-is_err
 returns-else-is_err c =
     let e = c.record_tests-v.ensures.0 ∙ size_taken _ (sym c.size_fits.ensures ∙ c.if-not-size_fits.false) in
-    let f = refusing_is _ ∙ sym c.is_err.ensures.value ∙ c.if-is_err.false in
+    let f : refusing c.record_tests-v.result ≡ false = refusing_is _ ∙ grind (arith, common_steps) in
     (e, book_fine c.args.book.now c.args.ws.now _ _ e f (c.record_tests-v.ensures.1 f))

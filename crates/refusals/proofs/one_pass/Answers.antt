@@ -2,13 +2,15 @@ use mathlib.Core.Path.{refl, sym, ◌∙◌, ap}
 use native.Mathlib.Omega.{arith}
 use Rattle.std.proofs.Common.{Err}
 use Rattle.std.proofs.lemmas.Result.{err_from_is_err_and}
+use Rattle.book.specs.declared.Test.TheVariants.{Kinds}
 use Rattle.book.specs.Records.{records}
+use Rattle.book.specs.Scan.{refused}
 use Rattle.refusals.proofs.PassLaws.{kind_stops, kind_goes_on, found_four, found_five}
 use Rattle.refusals.proofs.one_pass.Goals as goal
 
 pub returns-then-not-kind_fits : goal.returns-then-not-kind_fits
 unfolding records
-returns-then-not-kind_fits c = let l = c.loop-i in c.of.ensures ∙ kind_stops c.args.book.now _ l.i refl _ c.record_at-r.ensures c.loop-i-test.true l.invariant.0 (sym c.kind_fits.ensures ∙ c.if-not-kind_fits.true)
+returns-then-not-kind_fits c = let l = c.loop-i in c.of.ensures ∙ ap (refused Kinds) (omega arith) ∙ kind_stops c.args.book.now _ l.i refl _ c.record_at-r.ensures c.loop-i-test.true l.invariant.0 (sym c.kind_fits.ensures ∙ c.if-not-kind_fits.true)
 
 pub loop-i-preserved : goal.loop-i-preserved
 unfolding records

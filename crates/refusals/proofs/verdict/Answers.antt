@@ -1,4 +1,5 @@
 use mathlib.Core.Path.{◌≡◌, sym, ◌∙◌, ap}
+use Prim.Native.Nat.{ℕ}
 use lib.ListN.{length, replicate}
 use Rattle.std.proofs.Common.{Err}
 use Rattle.std.proofs.lemmas.Result.{err_from_is_err_and}
@@ -17,5 +18,5 @@ pub returns : goal.returns
 returns c =
     let v = c.tests.ensures in
     let g = c.in_ok-tests.was in
-    let z : c.fill.new.self ≡ replicate (length c.args.ws.now) 0 = search rules in
-    (sym g ∙ v.0, z ∙ tested_fine c.args.ws.now c.args.book.now c.args.buffer c.args.wanted _ _ v.0 g)
+    let l : length c.tests.new.ws ≡ length c.args.ws.now = search rules in
+    (sym g ∙ v.0, c.clear.ensures ∙ ap (λ (n : ℕ). replicate n 0) l ∙ tested_fine c.args.ws.now c.args.book.now c.args.buffer c.args.wanted _ _ v.0 g)

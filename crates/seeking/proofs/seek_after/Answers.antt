@@ -21,7 +21,7 @@ pub next_of-requires-clause-i_bound : goal.next_of-requires-clause-i_bound
 next_of-requires-clause-i_bound c = let p = c.requires in let y = c.if-p-eq0.false in let x = put_at_lem (omega arith) (candidate_put _ c.args.book.now.readable p.formed.0 _ _ _ _ _ _ _ (omega arith) p.candidate).1.1 in (rw (record_is _ c.args.book.now.readable p.formed.0 _ _ _ _ _ _ x) (omega (arith, x.most)), put_matches _ c.args.book.now.readable p.formed.0 _ _ _ _ _ _ _ (omega arith) p.candidate)
 
 pub returns-in-Some-clause-sought : goal.returns-in-Some-clause-sought
-returns-in-Some-clause-sought c = let p = c.requires in let y = c.if-p-eq0.false in λ rest z. found_here _ c.args.book.now.readable p.formed.0 _ _ _ _ _ rest (put_at_lem (omega arith) z) _ _ _ c.next_of.ensures.0 _ c.in-Some.is
+returns-in-Some-clause-sought c = let p = c.requires in let y = c.if-p-eq0.false in λ rest z. found_here _ c.args.book.now.readable p.formed.0 _ _ _ _ _ rest (put_at_lem (omega arith) z) _ _ _ c.next_of.ensures.0 _ c.in-Some.is _ (omega arith)
 
 pub seek_before-w-requires : goal.seek_before-w-requires
 seek_before-w-requires c = let p = c.requires in let y = c.if-p-eq0.false in let x = put_at_lem (omega arith) (candidate_put _ c.args.book.now.readable p.formed.0 _ _ _ _ _ _ _ (omega arith) p.candidate).1.1 in record { formed = p.formed.0; indexed = p.formed.2; standing = (x.program, rw x.link x.before); few = p.few.0; count = p.few.1; memo = p.by_index }

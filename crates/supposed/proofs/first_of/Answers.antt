@@ -1,3 +1,4 @@
+use native.Mathlib.Omega.{arith}
 use mathlib.Core.Path.{sym, ◌∙◌}
 use Rattle.index.proofs.RunLaws.{suppose_run, found_within}
 use Rattle.supposed.proofs.SearchLaws.{none_first}
@@ -5,7 +6,7 @@ use Rattle.supposed.proofs.first_of.Goals as goal
 
 -- where the class is not marked
 pub returns-then-not-may_suppose : goal.returns-then-not-may_suppose
-returns-then-not-may_suppose c = let p = c.requires in (none_first _ _ _ _ _ p.formed.1 p.s_bound.0 p.s_bound.1 (sym c.may_suppose.ensures ∙ c.if-not-may_suppose.true), tt)
+returns-then-not-may_suppose c = let p = c.requires in (none_first _ _ _ _ _ p.formed.1 p.s_bound.0 p.s_bound.1 _ (omega arith) (sym c.may_suppose.ensures ∙ c.if-not-may_suppose.true), tt)
 
 pub first_supposed-requires : goal.first_supposed-requires
 first_supposed-requires c = let p = c.requires in

@@ -13,6 +13,6 @@ index_run-requires c = let r = supposed_ready _ _ _ _ (sym c.is.ensures ∙ c.if
 pub loop-s-preserved : goal.loop-s-preserved
 loop-s-preserved c =
     elim c.if-is.branch [
-      | then-is w ↦ supposed_more _ _ _ _ (sym c.is.ensures ∙ w.if-is.true) w.read.ensures.0 w.read.ensures.1 _ _ _ c.loop-s.invariant (w.ws-is ∙ w.index_run.ensures)
-      | else-is w ↦ supposed_on _ _ (sym c.is.ensures ∙ w.if-is.false) _ _ (w.ws-is ∙ c.loop-s.invariant)
+      | then-is w ↦ supposed_more _ _ _ _ (sym c.is.ensures ∙ w.if-is.true) w.read.ensures.0 w.read.ensures.1 _ (omega arith) _ _ _ c.loop-s.invariant (w.ws-is ∙ w.index_run.ensures)
+      | else-is w ↦ supposed_on _ _ (sym c.is.ensures ∙ w.if-is.false) _ (omega arith) _ _ (w.ws-is ∙ c.loop-s.invariant)
     ]

@@ -1,4 +1,3 @@
-use mathlib.Core.Path.{refl}
 use native.Mathlib.Omega.{arith}
 use Rattle.words.proofs.ReadLaws.{in_book, four_low}
 use Rattle.words.proofs.Book.field.Goals as goal
@@ -10,7 +9,7 @@ pub overflow_add-r : goal.overflow_add-r
 overflow_add-r c = let p = c.requires in omega (arith, in_book _ c.args.self.now.readable _ p.r_bound)
 
 pub four-requires : goal.four-requires
-four-requires c = let p = c.requires in omega (arith, in_book _ c.args.self.now.readable _ p.r_bound)
+four-requires c = let p = c.requires in omega (arith, in_book _ c.args.self.now.readable _ p.r_bound, c.index.ensures)
 
 pub returns : goal.returns
-returns c = four_low _ _ _ _ _ refl c.four.ensures
+returns c = four_low _ _ _ _ _ c.index.ensures c.four.ensures
